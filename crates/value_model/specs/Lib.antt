@@ -1,0 +1,10 @@
+pub mod Code
+pub mod Limits
+pub mod Order
+pub mod Places
+pub mod Plain
+pub mod Safe
+pub mod Search
+pub mod Steps
+pub mod Tables
+pub mod Well

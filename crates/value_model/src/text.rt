@@ -1,0 +1,75 @@
+ghost use Rattle.std.specs.Prelude.{◌≡◌, ◌<◌, ◌≤◌, ◌^◌, length, IfOk, IsErrOf};
+
+use std::alloc::{AllocError, Global};
+use std::marker::Model;
+
+/// Why there is no such text.
+#[derive(Debug, Drop)]
+pub enum TextFault {
+    /// It has more than 2^20 bytes.
+    TooLong,
+    /// Memory ran out.
+    Memory,
+}
+
+/// A text of at most 2^20 bytes of UTF-8.
+///
+/// A contract sees it as its bytes.
+#[derive(Debug, Drop)]
+pub struct Text {
+    text: String,
+}
+
+impl Model for Text {
+    ghost use Rattle.std.specs.Prelude.{List, ℕ, string_bytes, length, ◌≤◌, ◌^◌};
+
+    ghost Value = { List ℕ };
+
+    ghost view = { λ t. string_bytes t.text };
+
+    ghost invariant = { λ t. length (string_bytes t.text) ≤ 2 ^ 20 };
+}
+
+impl Text {
+    /// The text of these bytes; `TooLong` exactly where they are more than 2^20.
+    pub fn of(alloc: Global, s: &str) -> Result<Text, TextFault>
+        ensures ok { IfOk result (λ t. t ≡ s.now) }
+        ensures long { 2 ^ 20 < length s.now → result ≡ Err TextFault.TooLong }
+        ensures only { IsErrOf result TextFault.TooLong → 2 ^ 20 < length s.now }
+    {
+        if s.len() > 1048576 {
+            return Err(TextFault::TooLong);
+        }
+        match String::from_str(alloc, s) {
+            Ok(text) => Ok(Text { text }),
+            Err(_) => Err(TextFault::Memory),
+        }
+    }
+
+    /// The same text.
+    pub fn copy(&self, alloc: Global) -> Result<Text, AllocError>
+        ensures { IfOk result (λ t. t ≡ self.now) }
+    {
+        Ok(Text {
+            text: String::from_str(alloc, self.text.as_str())?,
+        })
+    }
+
+    /// The text's characters.
+    pub fn as_str(&self) -> &str
+        ensures value { result.now ≡ self.now }
+        ensures short { length self.now ≤ 2 ^ 20 }
+    {
+        self.text.as_str()
+    }
+}
+
+impl From<AllocError> for TextFault {
+    ghost use Rattle.value_model.specs.declared.text.TextFault.TheVariants.{Memory};
+
+    ghost from_gives = { λ _ e. e ≡ Memory };
+
+    fn from(_: AllocError) -> Self {
+        TextFault::Memory
+    }
+}

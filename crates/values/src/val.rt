@@ -1,0 +1,85 @@
+ghost use Rattle.std.specs.Prelude.{◌≡◌, [], map};
+ghost use Rattle.value_model.specs.Plain.{prim, node, none};
+ghost use Rattle.value_model.specs.declared.words.Kind.TheVariants as kind;
+
+use std::alloc::Global;
+use std::marker::Model;
+use value_model::{Key, Text};
+
+/// A value. The keys of an object, a Map and a Set ascend strictly.
+///
+/// A contract sees it as a `Plain`.
+#[cycle(val)]
+#[derive(Drop)]
+pub struct Val {
+    pub node: Node,
+}
+
+/// What a value is: a primitive, or a container.
+#[cycle(val)]
+#[derive(Drop)]
+pub enum Node {
+    Prim(Key),
+    Obj(Vec<Field>),
+    List(Vec<Val>),
+    Map(Vec<Entry>),
+    Set(Vec<Key>),
+}
+
+/// An entry of an object.
+#[cycle(val)]
+#[derive(Drop)]
+pub struct Field {
+    pub key: Text,
+    pub value: Val,
+}
+
+/// An entry of a Map.
+#[cycle(val)]
+#[derive(Drop)]
+pub struct Entry {
+    pub key: Key,
+    pub value: Val,
+}
+
+impl Model for Val {
+    ghost use Rattle.value_model.specs.Plain.{Plain, values};
+    ghost use Rattle.value_model.specs.Code.{coded_plain};
+
+    ghost Value = { Plain };
+
+    ghost coded = { coded_plain };
+
+    ghost use Rattle.values.specs.Seen.{plain_of, Ascends};
+
+    ghost view = { λ v. plain_of v.node };
+
+    ghost invariant = { λ v. Ascends v.node };
+
+    ghost size = { values };
+
+    ghost use Rattle.values.specs.Falls.{falls};
+    ghost use Rattle.std.proofs.Common.{arith};
+
+    ghost size_decreases = { λ a h. omega (arith, falls a.node) };
+}
+
+impl Val {
+    /// The value of a primitive.
+    pub fn primitive(key: Key) -> Val
+        ensures { result ≡ prim key }
+    {
+        Val {
+            node: Node::Prim(key),
+        }
+    }
+
+    /// The object without fields.
+    pub fn empty_object(alloc: Global) -> Val
+        ensures { result ≡ node kind.Obj none }
+    {
+        Val {
+            node: Node::Obj(Vec::new(alloc)),
+        }
+    }
+}
