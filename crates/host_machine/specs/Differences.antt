@@ -6,9 +6,8 @@ use Rattle.value_model.specs.declared.key.Key.{Key}
 use Rattle.value_model.specs.declared.words.Op.{Op}
 use Rattle.value_model.specs.declared.words.Op.TheVariants.{Add, Replace, Remove}
 use Rattle.value_model.specs.Order.{key_cmp}
-use Rattle.value_model.specs.Plain.{Plain, prim, node, list_of, key_weight, weight}
+use Rattle.value_model.specs.Plain.{Plain, Table, prim, node, list_of, key_weight, weight}
 use Rattle.values.specs.declared.patch.Patch.{Patch}
-use Rattle.patch_meaning.specs.Applying.{Table}
 
 -- two primitives are the same by value; containers would be by their numbers, and a flat table has none
 abbrev pub same : Plain → Plain → Bool

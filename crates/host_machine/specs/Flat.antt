@@ -6,11 +6,10 @@ use Rattle.value_model.specs.declared.words.Kind.TheVariants as kind
 use Rattle.value_model.specs.declared.words.Op.{Op}
 use Rattle.value_model.specs.declared.words.Op.TheVariants.{Remove}
 use Rattle.value_model.specs.Limits.{is_long_key, is_reserved_key}
-use Rattle.value_model.specs.Plain.{Plain, prim, node, list_of}
+use Rattle.value_model.specs.Plain.{Plain, Table, prim, node, list_of}
 use Rattle.values.specs.declared.patch.Patch.{Patch}
 use Rattle.plain_values.specs.declared.command.Command.{Command}
 use Rattle.plain_values.specs.declared.command.Command.TheVariants as command
-use Rattle.patch_meaning.specs.Applying.{Table}
 
 abbrev pub is_integer : Plain → Bool
 is_integer (prim (Int n)) = true

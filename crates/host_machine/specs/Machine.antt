@@ -2,7 +2,7 @@
 use Rattle.std.specs.Prelude.{ℕ, ◌+◌, ◌^◌, ◌==◌, ◌||◌, nat_lt, List, [], ◌∷◌, Bool, true, false, not, Option, Some, None, Result, Ok, Err, if◌then◌else◌}
 use Rattle.value_model.specs.declared.words.Kind.TheVariants as kind
 use Rattle.value_model.specs.declared.words.PatchWhy.{PatchWhy}
-use Rattle.value_model.specs.Plain.{Plain, prim, node, none, list_of, weight}
+use Rattle.value_model.specs.Plain.{Plain, Table, prim, node, none, list_of, weight}
 use Rattle.values.specs.declared.patch.Patch.{Patch}
 use Rattle.values.specs.declared.patch.Pair.{Pair}
 use Rattle.plain_values.specs.declared.command.Command.{Command}
@@ -13,7 +13,7 @@ use Rattle.plain_values.specs.declared.reply.Reply.TheVariants as reply
 use Rattle.plain_values.specs.declared.refusal.Refusal.{Refusal}
 use Rattle.plain_values.specs.declared.refusal.Refusal.TheVariants as refusal
 use Rattle.plain_values.specs.Names.{patch_refusal}
-use Rattle.patch_meaning.specs.Applying.{Table, Fault, applied, patched}
+use Rattle.patch_meaning.specs.Applying.{Fault, applied, patched}
 use Rattle.host_machine.specs.Differences.{same_table, differences, patches_weight}
 
 -- The state with its number, the least number not given yet, the sum of the weights of all numbers given, and the
@@ -85,8 +85,8 @@ changed m new =
     accepted (with_state m new) (between m.state new)))
 
 abbrev pub judged : Machine → Bool → Result Plain Fault → Machine × Reply
-judged m wrote (Err f) = refused m (Some f.at) (patch_refusal f.why)
-judged m wrote (Ok new) = if wrote then changed m new else accepted m no_patches
+judged m written (Err f) = refused m (Some f.at) (patch_refusal f.why)
+judged m written (Ok new) = if written then changed m new else accepted m no_patches
 
 unfoldable pub apply_step : Machine → List Patch → Machine × Reply
 apply_step m patches = judged m (writes patches m.state) (applied patches m.state)
@@ -94,3 +94,8 @@ apply_step m patches = judged m (writes patches m.state) (applied patches m.stat
 -- what a command makes of the machine, and its reply
 abbrev pub step : Machine → Command → Machine × Reply
 step m (command.Apply patches) = apply_step m patches
+
+-- a host: its machine, and how many commands it has taken
+pub record Turned : Type 0 where
+  pub machine : Machine
+  pub turns : ℕ

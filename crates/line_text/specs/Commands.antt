@@ -39,12 +39,12 @@ has_flat_value None v = false
 has_flat_value (Some Remove) v = is_none v
 has_flat_value (Some _) v = is_number v
 
-abbrev pub is_flat_patch : Data → Bool
-is_flat_patch d = is_patch d && is_name_path (get (codes "path") d) && has_flat_value (op_in d) (get (codes "value") d)
+abbrev pub is_flat_patch_data : Data → Bool
+is_flat_patch_data d = is_patch d && is_name_path (get (codes "path") d) && has_flat_value (op_in d) (get (codes "value") d)
 
 abbrev pub are_flat_items : Items → Bool
 are_flat_items no_items = true
-are_flat_items (item d ds) = is_flat_patch d && are_flat_items ds
+are_flat_items (item d ds) = is_flat_patch_data d && are_flat_items ds
 
 abbrev pub are_flat_patches : Data → Bool
 are_flat_patches (array ds) = are_flat_items ds
@@ -60,7 +60,8 @@ apply_in d = if has_members 2 d && is_text (codes "apply") (get (codes "do") d) 
 
 -- ---- the first fault
 
--- a fault of the JSON inside a line, as a refusal of the same name
+-- A fault of the JSON inside a line, as a refusal of the same name. A list of another form is none of this command's: its
+-- form is judged first.
 abbrev pub json_refusal : JsonWhy → Refusal
 json_refusal why.NotJson = refusal.NotJson
 json_refusal why.NotSafeInteger = refusal.NotSafeInteger

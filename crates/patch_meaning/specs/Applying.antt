@@ -1,5 +1,5 @@
 -- Applying patches to a plain value, in the form of Immer 10's applyPatches; every case that Immer leaves open is this project's.
-use Rattle.std.specs.Prelude.{ℕ, ◌+◌, ℤ, pos, List, [], ◌∷◌, ◌++◌, length, Bool, true, false, Option, Some, None, Result, Ok, Err, codes, nat_le, nat_lt, if◌then◌else◌, slice_set}
+use Rattle.std.specs.Prelude.{ℕ, ◌+◌, ℤ, pos, List, [], ◌∷◌, ◌++◌, length, Bool, true, false, ◌||◌, Option, Some, None, Result, Ok, Err, codes, nat_le, nat_lt, if◌then◌else◌, slice_set}
 use Rattle.std.specs.Str.{bytes_eq}
 use Rattle.std.specs.List.{insert, remove}
 use Rattle.std.proofs.Common.{take, drop}
@@ -15,11 +15,8 @@ use Rattle.value_model.specs.declared.words.PatchWhy.TheVariants as why
 use Rattle.value_model.specs.Limits.{is_long_key, is_reserved_text, is_reserved_key}
 use Rattle.value_model.specs.Order.{key_cmp}
 use Rattle.value_model.specs.Places.{child_at, without_key}
-use Rattle.value_model.specs.Plain.{Plain, prim, node, entries, list_of}
+use Rattle.value_model.specs.Plain.{Plain, Table, prim, node, entries, list_of}
 use Rattle.values.specs.declared.patch.Patch.{Patch}
-
-abbrev pub Table : Type 0
-Table = List (Key × Plain)
 
 -- ---- one patch at the container that its path leads to
 
@@ -156,11 +153,18 @@ abbrev pub from_root : ℕ → Option Plain → (Plain → Result Plain Fault) �
 from_root i None f = Err (record { at = i; why = why.UndefinedWrite })
 from_root i (Some w) f = f w
 
+abbrev pub has_root_replace : List Patch → Bool
+has_root_replace [] = false
+has_root_replace (p ∷ ps) = is_root_replace p || has_root_replace ps
+
 -- the last patch that replaces the root gives it, and only the patches after it are applied
-abbrev pub begun_from : ℕ → List Patch → Result Plain Fault → Result Plain Fault
-begun_from i [] r = r
-begun_from i (p ∷ ps) r = begun_from (i + 1) ps (if is_root_replace p then from_root i p.value (applied_from (i + 1) ps) else r)
+abbrev pub applied_at : ℕ → List Patch → Plain → Result Plain Fault
+applied_at i [] x = Ok x
+applied_at i (p ∷ ps) x =
+    if has_root_replace ps then applied_at (i + 1) ps x else (
+    if is_root_replace p then from_root i p.value (applied_from (i + 1) ps) else
+    applied_from i (p ∷ ps) x)
 
 -- what the patches make of a value, or the first fault
 abbrev pub applied : List Patch → Plain → Result Plain Fault
-applied ps x = begun_from 0 ps (applied_from 0 ps x)
+applied ps x = applied_at 0 ps x

@@ -15,7 +15,11 @@ mutual
     none : Entries
     entry : Key → Plain → Entries → Entries
 
--- the entries as std's list, and back
+-- the entries of a container as std's list
+abbrev pub Table : Type 0
+Table = List (Key × Plain)
+
+-- entries from a list, and back
 abbrev pub entries : List (Key × Plain) → Entries
 entries [] = none
 entries (e ∷ es) = entry e.0 e.1 (entries es)

@@ -37,15 +37,15 @@ pub enum Limit {
 /// Why a patch can't be applied.
 #[derive(Clone, Copy, Debug, Drop, PartialEq, Eq)]
 pub enum PatchWhy {
-    /// No container stands where the path leads, or nothing to remove.
+    /// The path is empty, or a step before the last leads to no container, or a list has no element to remove at the index.
     NoPath,
-    /// The last step, or the value, is of the wrong kind for the container.
+    /// The last step is of the wrong kind for the container, or the value is: a container for a Set, no integer from 0 for a list's length.
     BadKey,
     /// A Set has nothing that could be replaced.
     SetReplace,
-    /// An index past the end of a list.
+    /// An index of a list that is negative or past its end, or a length past its end.
     Hole,
-    /// A patch that writes has no value.
+    /// A patch has no value that needs one: one that writes, one that removes a member of a Set, the last one that replaces the root.
     UndefinedWrite,
     /// A step in an object is `__proto__`, `constructor` or `prototype`.
     ReservedKey,

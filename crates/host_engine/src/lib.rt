@@ -1,0 +1,7 @@
+//! The host: one state, changed by commands, each of which is answered with patches there and back.
+//!
+//! What it does is the host machine of `host_machine`.
+#![tactic(auto)]
+
+mod table;
+

@@ -1,0 +1,191 @@
+ghost use Rattle.std.specs.Prelude.{◌≡◌, ◌≤◌, ◌^◌, ◌+◌, [], min, map, length, IfOk, IsTrue, Some, None, not, option_map};
+ghost use Rattle.std.specs.FinMap.Entries.{find, put, is_sorted};
+ghost use Rattle.value_model.specs.Order.{key_cmp};
+ghost use Rattle.value_model.specs.Places.{without_key};
+ghost use Rattle.value_model.specs.Plain.{prim, entries, weights};
+ghost use Rattle.value_model.specs.Search.{IsPlace};
+ghost use Rattle.value_model.specs.declared.key.Key.TheVariants as key;
+ghost use Rattle.value_model.specs.declared.words.Kind.TheVariants as kind;
+ghost use Rattle.host_machine.specs.Differences.{same, same_table};
+ghost use Rattle.host_engine.specs.Kept.{of_field, number_of};
+
+use plain_values::{Safe, Text};
+use std::alloc::{AllocError, Global};
+use std::cmp::Ordering;
+use std::marker::Model;
+
+/// An integer under its name.
+#[derive(Drop)]
+pub struct Field {
+    pub name: Text,
+    pub number: Safe,
+}
+
+/// Integers under names, the names ascending.
+///
+/// A contract sees it as the table of an object's entries.
+#[derive(Drop)]
+pub struct Table {
+    fields: Vec<Field>,
+}
+
+impl Model for Table {
+    ghost use Rattle.std.specs.Prelude.{List, map, IsTrue};
+    ghost use Rattle.std.specs.Coded.{codes};
+    ghost use Rattle.std.specs.FinMap.Entries.{is_sorted};
+    ghost use Rattle.value_model.specs.Code.{coded_key, coded_plain};
+    ghost use Rattle.value_model.specs.Order.{key_cmp};
+    ghost use Rattle.value_model.specs.Plain.{Plain};
+    ghost use Rattle.value_model.specs.declared.key.Key.{Key};
+    ghost use Rattle.host_engine.specs.Kept.{of_field};
+
+    ghost Value = { List (Key × Plain) };
+
+    ghost coded = { Prim.hlevel (codes, coded_key, coded_plain) };
+
+    ghost view = { λ t. map of_field t.fields.items };
+
+    ghost invariant = { λ t. IsTrue (is_sorted key_cmp (map of_field t.fields.items)) };
+}
+
+impl Table {
+    /// No entries.
+    pub fn new(alloc: Global) -> Table
+        ensures { result ≡ [] }
+    {
+        Table {
+            fields: Vec::new(alloc),
+        }
+    }
+
+    /// The same entries.
+    pub fn copy(&self, alloc: Global) -> Result<Table, AllocError>
+        ensures { IfOk result (λ t. t ≡ self.now) }
+    {
+        Ok(Table {
+            fields: copy_fields(alloc, &self.fields)?,
+        })
+    }
+
+    /// The entries in the order of their names.
+    pub fn fields(&self) -> &[Field]
+        ensures value { map of_field result.now ≡ self.now }
+        ensures ascending { IsTrue (is_sorted key_cmp self.now) }
+    {
+        self.fields.as_slice()
+    }
+
+    /// What the entries weigh, or 2^63 where that is more.
+    pub fn weight(&self) -> u64
+        ensures { result ≡ min (weights kind.Obj (entries self.now)) (2 ^ 63) }
+    {
+        fields_weight(&self.fields)
+    }
+
+    /// Sets a name to a number, and says whether that changed the table.
+    pub fn set(&mut self, name: Text, number: Safe) -> Result<bool, AllocError>
+        ensures table { IfOk result (λ _. self.new ≡ put key_cmp (key.Text name) (prim (key.Int number)) self.old) }
+        ensures wrote { IfOk result (λ w. w ≡ not (same_table self.old self.new)) }
+    {
+        put_field(&mut self.fields, name, number)
+    }
+
+    /// Removes a name, and says whether that changed the table.
+    pub fn unset(&mut self, name: &Text) -> bool
+        ensures table { self.new ≡ without_key (key.Text name.now) self.old }
+        ensures wrote { result ≡ not (same_table self.old self.new) }
+    {
+        remove_field(&mut self.fields, name)
+    }
+}
+
+fn copy_fields(alloc: Global, fields: &Vec<Field>) -> Result<Vec<Field>, AllocError>
+    ensures { IfOk result (λ w. w.items ≡ fields.now.items) }
+{
+    let mut out = Vec::with_capacity(alloc, fields.len())?;
+    for f in fields {
+        out.push(Field {
+            name: f.name.copy(alloc)?,
+            number: f.number,
+        })?;
+    }
+    Ok(out)
+}
+
+fn fields_weight(fields: &[Field]) -> u64
+    ensures { result ≡ min (weights kind.Obj (entries (map of_field fields.now))) (2 ^ 63) }
+{
+    let mut total: u64 = 0;
+    for f in fields {
+        total = capped(total, f.name.as_str().len() as u64);
+    }
+    total
+}
+
+/// One field more, of a name of so many bytes: its key weighs 1 and these, its number 1.
+fn capped(total: u64, bytes: u64) -> u64
+    requires { bytes ≤ 2 ^ 20 }
+    ensures { result ≡ min (total + (bytes + 2)) (2 ^ 63) }
+{
+    total.saturating_add(bytes + 2).min(1 << 63)
+}
+
+fn put_field(fields: &mut Vec<Field>, name: Text, number: Safe) -> Result<bool, AllocError>
+    requires { IsTrue (is_sorted key_cmp (map of_field fields.old.items)) }
+    ensures table { IfOk result (λ _. map of_field fields.new.items ≡ put key_cmp (key.Text name) (prim (key.Int number)) (map of_field fields.old.items)) }
+    ensures wrote { IfOk result (λ w. w ≡ not (same_table (map of_field fields.old.items) (map of_field fields.new.items))) }
+    ensures sorted { IsTrue (is_sorted key_cmp (map of_field fields.new.items)) }
+{
+    match place_of(fields, &name) {
+        Ok(at) => {
+            let wrote = is_other(fields[at].number, number);
+            fields[at] = Field { name, number };
+            Ok(wrote)
+        }
+        Err(at) => {
+            fields.insert(at, Field { name, number })?;
+            Ok(true)
+        }
+    }
+}
+
+fn is_other(a: Safe, b: Safe) -> bool
+    ensures { result ≡ not (same (number_of a) (number_of b)) }
+{
+    compare_numbers(a, b).is_ne()
+}
+
+fn compare_numbers(a: Safe, b: Safe) -> Ordering
+    ensures { result ≡ key_cmp (key.Int a) (key.Int b) }
+{
+    a.get().cmp(&b.get())
+}
+
+fn remove_field(fields: &mut Vec<Field>, name: &Text) -> bool
+    requires { IsTrue (is_sorted key_cmp (map of_field fields.old.items)) }
+    ensures table { map of_field fields.new.items ≡ without_key (key.Text name.now) (map of_field fields.old.items) }
+    ensures wrote { result ≡ not (same_table (map of_field fields.old.items) (map of_field fields.new.items)) }
+    ensures sorted { IsTrue (is_sorted key_cmp (map of_field fields.new.items)) }
+{
+    match place_of(fields, name) {
+        Ok(at) => {
+            let _field = fields.remove(at);
+            true
+        }
+        Err(_) => false,
+    }
+}
+
+/// Where a name is, or where it would go.
+fn place_of(fields: &[Field], name: &Text) -> Result<usize, usize>
+    requires { IsTrue (is_sorted key_cmp (map of_field fields.now)) }
+    ensures { IsPlace of_field (key.Text name.now) fields.now result }
+{
+    fields.binary_search_by(|f| compare_texts(&f.name, name))
+}
+
+fn compare_texts(a: &Text, b: &Text) -> Ordering
+    ensures { result ≡ key_cmp (key.Text a.now) (key.Text b.now) }
+{
+    a.as_str().as_bytes().cmp(b.as_str().as_bytes())
+}
