@@ -3,5 +3,6 @@
 //! What it does is the host machine of `host_machine`.
 #![tactic(auto)]
 
+mod edits;
 mod table;
 
