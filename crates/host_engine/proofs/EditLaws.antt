@@ -38,11 +38,3 @@ edits_unset op.Replace None s old new r f e h = absurd (cc)
 edits_unset op.Replace (Some v) s old new r f e h = absurd (cc)
 edits_unset op.Remove None s old new r f e h = edits_node op.Remove None (key.Text s) old new r h
 edits_unset op.Remove (Some v) s old new r f e h = absurd (cc)
-
-pub right_true : (a b : Bool) → IsTrue (a && b) → IsTrue b
-right_true true b h = h
-right_true false b h = absurd (cc)
-
-pub left_true : (a b : Bool) → IsTrue (a && b) → IsTrue a
-left_true true b h = refl
-left_true false b h = h

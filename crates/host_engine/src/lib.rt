@@ -4,5 +4,6 @@
 #![tactic(auto)]
 
 mod edits;
+mod pairs;
 mod table;
 

@@ -149,7 +149,7 @@ fn put_field(fields: &mut Vec<Field>, name: Text, number: Safe) -> Result<bool, 
     }
 }
 
-fn is_other(a: Safe, b: Safe) -> bool
+pub fn is_other(a: Safe, b: Safe) -> bool
     ensures { result ≡ not (same (number_of a) (number_of b)) }
 {
     compare_numbers(a, b).is_ne()
@@ -184,7 +184,7 @@ fn place_of(fields: &[Field], name: &Text) -> Result<usize, usize>
     fields.binary_search_by(|f| compare_texts(&f.name, name))
 }
 
-fn compare_texts(a: &Text, b: &Text) -> Ordering
+pub fn compare_texts(a: &Text, b: &Text) -> Ordering
     ensures { result ≡ key_cmp (key.Text a.now) (key.Text b.now) }
 {
     a.as_str().as_bytes().cmp(b.as_str().as_bytes())

@@ -1,1 +1,2 @@
+pub mod DifferenceLaws
 pub mod TableLaws

@@ -39,15 +39,15 @@ module _ {X : Type 0} (f : X → Key × Plain) (k : Key) where
       let here = p 0 d (omega arith) in
       rw here (ap (λ ys. f y ∷ ys) (put_gap xs i d x (tail_past y xs i p) (omega arith) (λ l. e (omega arith)) q))
 
-left_true : (a b : Bool) → (a && b) ≡ true → a ≡ true
+pub left_true : (a b : Bool) → (a && b) ≡ true → a ≡ true
 left_true true b h = refl
 left_true false b h = h
 
-right_true : (a b : Bool) → (a && b) ≡ true → b ≡ true
+pub right_true : (a b : Bool) → (a && b) ≡ true → b ≡ true
 right_true true b h = h
 right_true false b h = absurd (cc)
 
-less_from_test : (o : Ordering) → is_lt o ≡ true → o ≡ Less
+pub less_from_test : (o : Ordering) → is_lt o ≡ true → o ≡ Less
 less_from_test Less h = refl
 less_from_test Equal h = absurd (cc)
 less_from_test Greater h = absurd (cc)
@@ -57,7 +57,7 @@ le_cases a b h = grind arith
 
 -- ---- a binary search: the keys compare to k without falling
 module _ (a b k : Key) where
-  turned : (o : Ordering) → key_cmp a b ≡ o → key_cmp b a ≡ ordering_reverse o
+  pub turned : (o : Ordering) → key_cmp a b ≡ o → key_cmp b a ≡ ordering_reverse o
   turned o h = key_total.antisymm b a ∙ ap ordering_reverse h
 
   rises : key_cmp a b ≡ Less → ordering_index (key_cmp a k) ≤ ordering_index (key_cmp b k)
@@ -107,7 +107,7 @@ tail_sorted : (e : Key × Plain) (es : List (Key × Plain)) → IsTrue (is_sorte
 tail_sorted e es h = right_true _ _ h
 
 -- a key below the first one isn't in the table
-none_below : (k x : Key) (es : List (Key × Plain)) → key_cmp k x ≡ Less → below_all key_cmp x es ≡ true → record { nothing : find key_cmp k es ≡ None; same : without_key k es ≡ es }
+pub none_below : (k x : Key) (es : List (Key × Plain)) → key_cmp k x ≡ Less → below_all key_cmp x es ≡ true → record { nothing : find key_cmp k es ≡ None; same : without_key k es ≡ es }
 none_below k x [] p h = record { nothing = refl; same = refl }
 none_below k x (e ∷ es) p h =
     let below : key_cmp k e.0 ≡ Less = key_total.trans k x e.0 p (less_from_test _ (left_true _ _ h)) in
@@ -115,7 +115,7 @@ none_below k x (e ∷ es) p h =
     record { nothing = rw below rest.nothing; same = rw below (ap (λ (ys : List (Key × Plain)). e ∷ ys) rest.same) }
 
 -- a table whose keys are all above k has no entry of k to lose
-without_above : (k : Key) (es : List (Key × Plain)) → below_all key_cmp k es ≡ true → without_key k es ≡ es
+pub without_above : (k : Key) (es : List (Key × Plain)) → below_all key_cmp k es ≡ true → without_key k es ≡ es
 without_above k [] h = refl
 without_above k (e ∷ es) h =
     let below : key_cmp k e.0 ≡ Less = less_from_test _ (left_true _ _ h) in

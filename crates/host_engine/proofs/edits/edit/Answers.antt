@@ -4,7 +4,8 @@ use Rattle.value_model.specs.declared.key.Key.TheVariants as key
 use Rattle.host_machine.specs.Flat.{is_flat_path, is_flat_value}
 use Rattle.host_engine.specs.Edits.{is_number}
 use Rattle.host_engine.specs.Kept.{number_of}
-use Rattle.host_engine.proofs.EditLaws.{edits_set, edits_unset, right_true}
+use Rattle.value_model.specs.Search.{right_true}
+use Rattle.host_engine.proofs.EditLaws.{edits_set, edits_unset}
 use Rattle.host_engine.proofs.edits.edit.Goals as goal
 
 pub returns-in-Some-number_in : goal.returns-in-Some-number_in
