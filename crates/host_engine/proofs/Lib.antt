@@ -1,3 +1,4 @@
 pub mod EditLaws
 pub mod PairLaws
+pub mod StateLaws
 pub mod Tables

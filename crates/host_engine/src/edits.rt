@@ -140,7 +140,7 @@ fn text_in(step: &Key) -> Option<&Text>
 }
 
 /// The integer that a value is.
-fn integer_in(value: &Val) -> Option<Safe>
+pub fn integer_in(value: &Val) -> Option<Safe>
     ensures { MatchOption result (is_integer value.now ≡ false) (λ n. value.now ≡ number_of n) }
 {
     match &value.node {

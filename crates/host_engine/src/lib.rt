@@ -4,6 +4,8 @@
 #![tactic(auto)]
 
 mod edits;
+mod host;
 mod pairs;
 mod table;
 
+pub use host::Host;

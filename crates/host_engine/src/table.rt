@@ -2,14 +2,17 @@ ghost use Rattle.std.specs.Prelude.{◌≡◌, ◌≤◌, ◌^◌, ◌+◌, [], 
 ghost use Rattle.std.specs.FinMap.Entries.{find, put, is_sorted};
 ghost use Rattle.value_model.specs.Order.{key_cmp};
 ghost use Rattle.value_model.specs.Places.{without_key};
-ghost use Rattle.value_model.specs.Plain.{prim, entries, weights};
+ghost use Rattle.value_model.specs.Plain.{prim, entries, weights, weight as weight_of};
 ghost use Rattle.value_model.specs.Search.{IsPlace};
 ghost use Rattle.value_model.specs.declared.key.Key.TheVariants as key;
 ghost use Rattle.value_model.specs.declared.words.Kind.TheVariants as kind;
 ghost use Rattle.host_machine.specs.Differences.{same, same_table};
-ghost use Rattle.host_engine.specs.Kept.{of_field, number_of};
+ghost use Rattle.host_machine.specs.Flat.{is_flat, is_flat_table};
+ghost use Rattle.values.specs.Seen.{of_field as of_object_field};
+ghost use Rattle.host_engine.specs.Kept.{of_field, number_of, state_of};
 
-use plain_values::{Safe, Text};
+use crate::edits::integer_in;
+use plain_values::{Field as ObjField, Node, Safe, Text, Val};
 use std::alloc::{AllocError, Global};
 use std::cmp::Ordering;
 use std::marker::Model;
@@ -58,6 +61,19 @@ impl Table {
         }
     }
 
+    /// The entries of an object of integers. The only error is want of memory.
+    pub fn of(alloc: Global, object: &Val) -> Result<Table, AllocError>
+        requires { IsTrue (is_flat object.now) }
+        ensures { IfOk result (λ t. state_of t ≡ object.now) }
+    {
+        match &object.node {
+            Node::Obj(fields) => Ok(Table {
+                fields: fields_of(alloc, fields)?,
+            }),
+            _ => unreachable!(),
+        }
+    }
+
     /// The same entries.
     pub fn copy(&self, alloc: Global) -> Result<Table, AllocError>
         ensures { IfOk result (λ t. t ≡ self.now) }
@@ -75,11 +91,11 @@ impl Table {
         self.fields.as_slice()
     }
 
-    /// What the entries weigh, or 2^63 where that is more.
+    /// What the object of these entries weighs, or 2^63 where that is more.
     pub fn weight(&self) -> u64
-        ensures { result ≡ min (weights kind.Obj (entries self.now)) (2 ^ 63) }
+        ensures { result ≡ min (weight_of (state_of self.now)) (2 ^ 63) }
     {
-        fields_weight(&self.fields)
+        fields_weight(&self.fields).saturating_add(1).min(1 << 63)
     }
 
     /// Sets a name to a number, and says whether that changed the table.
@@ -97,6 +113,23 @@ impl Table {
     {
         remove_field(&mut self.fields, name)
     }
+}
+
+fn fields_of(alloc: Global, fields: &[ObjField]) -> Result<Vec<Field>, AllocError>
+    requires { IsTrue (is_flat_table (map of_object_field fields.now)) }
+    ensures { IfOk result (λ w. map of_field w.items ≡ map of_object_field fields.now) }
+{
+    let mut out = Vec::with_capacity(alloc, fields.len())?;
+    for f in fields {
+        let Some(number) = integer_in(&f.value) else {
+            unreachable!()
+        };
+        out.push(Field {
+            name: f.key.copy(alloc)?,
+            number,
+        })?;
+    }
+    Ok(out)
 }
 
 fn copy_fields(alloc: Global, fields: &Vec<Field>) -> Result<Vec<Field>, AllocError>

@@ -1,2 +1,3 @@
 pub mod DifferenceLaws
+pub mod StepLaws
 pub mod TableLaws
