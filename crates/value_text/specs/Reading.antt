@@ -26,12 +26,12 @@ safe_of (unsigned n) = if nat_le n 9007199254740991 then Some (pos n) else None
 safe_of (negative z) = if int_lt (negsuc 9007199254740991) z then Some z else None
 safe_of (float x) = None
 
-abbrev int_or_fault : Option ℤ → Result Key JsonWhy
-int_or_fault (Some z) = Ok (key.Int z)
-int_or_fault None = Err why.NotSafeInteger
+abbrev safe_or_fault : Option ℤ → Result ℤ JsonWhy
+safe_or_fault (Some z) = Ok z
+safe_or_fault None = Err why.NotSafeInteger
 
-abbrev pub int_from : Num → Result Key JsonWhy
-int_from n = int_or_fault (safe_of n)
+abbrev pub safe_from : Num → Result ℤ JsonWhy
+safe_from n = safe_or_fault (safe_of n)
 
 -- a text has at most 2^20 bytes
 abbrev pub text_from : List ℕ → Result (List ℕ) JsonWhy
@@ -41,7 +41,7 @@ text_from s = if nat_lt (2 ^ 20) (length s) then Err why.TextTooLong else Ok s
 abbrev pub key_from : Data → Result Key JsonWhy
 key_from null = Ok key.Null
 key_from (boolean b) = Ok (key.Bool b)
-key_from (number n) = int_from n
+key_from (number n) = result_map key.Int (safe_from n)
 key_from (string s) = result_map key.Text (text_from s)
 key_from (array ds) = Err why.BadTag
 key_from (object ms) = Err why.BadTag
@@ -91,8 +91,8 @@ abbrev mutual
   pub walked : Data → Result Plain JsonWhy
   walked null = Ok (prim key.Null)
   walked (boolean b) = Ok (prim (key.Bool b))
-  walked (number n) = result_map prim (int_from n)
-  walked (string s) = result_map (λ t. prim (key.Text t)) (text_from s)
+  walked (number n) = result_map prim (key_from (number n))
+  walked (string s) = result_map prim (key_from (string s))
   walked (array ds) = result_map (node kind.List) (elements ds)
   walked (object ms) = object_in ms
 

@@ -1,0 +1,122 @@
+ghost use Rattle.std.specs.Prelude.{◌≡◌, IsTrue};
+ghost use Rattle.value_model.specs.Limits as spec;
+ghost use Rattle.value_model.specs.Well.{well, all_well};
+ghost use Rattle.value_model.specs.declared.words.Kind.TheVariants as kind;
+ghost use Rattle.values.specs.Seen.{of_fields, of_entries, of_items, of_members};
+
+use values::{Entry, Field, Key, Node, Text, Val};
+
+const LONGEST: usize = 1024;
+
+/// What is wrong with some key inside a value.
+#[derive(Clone, Copy, Debug, Drop)]
+pub(crate) struct KeyFaults {
+    /// A key of an object or a Map, or a member of a Set, is a text of more than 1,024 bytes.
+    pub(crate) long: bool,
+    /// A key of an object is reserved.
+    pub(crate) reserved: bool,
+}
+
+/// What is wrong with the keys of a value. A caller learns besides that each of its levels is in order.
+#[cycle(keys)]
+#[tactic(auto, using(value_model::specs::Steps::list_of_entries, values::specs::Fits::fields_fit, values::specs::Fits::items_fit, values::specs::Fits::entries_fit, values::specs::Fits::members_fit))]
+pub(crate) fn key_faults(v: &Val) -> KeyFaults
+    ensures long { result.long ≡ spec.has_long_key v.now }
+    ensures reserved { result.reserved ≡ spec.has_reserved_key v.now }
+    ensures well { IsTrue (well v.now) }
+{
+    match &v.node {
+        Node::Prim(_) => KeyFaults {
+            long: false,
+            reserved: false,
+        },
+        Node::Obj(fields) => in_fields(fields),
+        Node::List(items) => in_items(items),
+        Node::Map(entries) => in_entries(entries),
+        Node::Set(members) => in_members(members),
+    }
+}
+
+#[cycle(keys)]
+fn in_fields(fields: &[Field]) -> KeyFaults
+    ensures long { result.long ≡ spec.any_long_key (of_fields fields.now) }
+    ensures reserved { result.reserved ≡ spec.any_reserved_key kind.Obj (of_fields fields.now) }
+    ensures well { IsTrue (all_well (of_fields fields.now)) }
+{
+    let mut long = false;
+    let mut reserved = false;
+    for f in fields {
+        let inside = key_faults(&f.value);
+        long = long | is_long_text(&f.key) | inside.long;
+        reserved = reserved | is_reserved(f.key.as_str()) | inside.reserved;
+    }
+    KeyFaults { long, reserved }
+}
+
+#[cycle(keys)]
+fn in_items(items: &[Val]) -> KeyFaults
+    ensures long { result.long ≡ spec.any_long_key (of_items items.now) }
+    ensures reserved { result.reserved ≡ spec.any_reserved_key kind.List (of_items items.now) }
+    ensures well { IsTrue (all_well (of_items items.now)) }
+{
+    let mut long = false;
+    let mut reserved = false;
+    for v in items {
+        let inside = key_faults(v);
+        long = long | inside.long;
+        reserved = reserved | inside.reserved;
+    }
+    KeyFaults { long, reserved }
+}
+
+#[cycle(keys)]
+fn in_entries(entries: &[Entry]) -> KeyFaults
+    ensures long { result.long ≡ spec.any_long_key (of_entries entries.now) }
+    ensures reserved { result.reserved ≡ spec.any_reserved_key kind.Map (of_entries entries.now) }
+    ensures well { IsTrue (all_well (of_entries entries.now)) }
+{
+    let mut long = false;
+    let mut reserved = false;
+    for e in entries {
+        let inside = key_faults(&e.value);
+        long = long | is_long(&e.key) | inside.long;
+        reserved = reserved | inside.reserved;
+    }
+    KeyFaults { long, reserved }
+}
+
+fn in_members(members: &[Key]) -> KeyFaults
+    ensures long { result.long ≡ spec.any_long_key (of_members members.now) }
+    ensures reserved { result.reserved ≡ spec.any_reserved_key kind.Set (of_members members.now) }
+    ensures well { IsTrue (all_well (of_members members.now)) }
+{
+    let mut long = false;
+    for k in members {
+        long = long | is_long(k);
+    }
+    KeyFaults {
+        long,
+        reserved: false,
+    }
+}
+
+fn is_long(k: &Key) -> bool
+    ensures { result ≡ spec.is_long_key k.now }
+{
+    match k {
+        Key::Text(text) => is_long_text(text),
+        _ => false,
+    }
+}
+
+fn is_long_text(text: &Text) -> bool
+    ensures { result ≡ spec.is_long_text text.now }
+{
+    text.as_str().len() > LONGEST
+}
+
+fn is_reserved(name: &str) -> bool
+    ensures { result ≡ spec.is_reserved_text name.now }
+{
+    name == "__proto__" || name == "constructor" || name == "prototype"
+}
