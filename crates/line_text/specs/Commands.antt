@@ -1,8 +1,8 @@
 -- The command that a line is, or why it is none. A line is one JSON text (RFC 8259).
-use Rattle.std.specs.Prelude.{ℕ, ◌&&◌, List, length, Bool, true, false, codes, if◌then◌else◌, nat_lt, Option, Some, None, is_none, option_and_then, Result, Ok, Err}
+use Rattle.std.specs.Prelude.{ℕ, ◌&&◌, List, length, Bool, true, false, codes, if◌then◌else◌, nat_lt, Option, Some, None, is_none, is_some, option_and_then, Result, Ok, Err}
 use Rattle.std.specs.Str.{bytes_eq}
-use Rattle.serde_json.specs.Data.{Data, number, string, array, Items, no_items, item}
-use Rattle.serde_json.specs.Find.{get, as_str}
+use Rattle.serde_json.specs.Data.{Data, Items, no_items, item}
+use Rattle.serde_json.specs.Find.{get, as_array, as_number, as_str}
 use Rattle.value_model.specs.declared.words.Limit.{Limit}
 use Rattle.value_model.specs.declared.words.Op.{Op}
 use Rattle.value_model.specs.declared.words.Op.TheVariants.{Remove}
@@ -14,49 +14,52 @@ use Rattle.plain_values.specs.declared.refusal.Refusal.TheVariants as refusal
 use Rattle.plain_values.specs.Names.{limit_refusal}
 use Rattle.value_text.specs.declared.why.JsonWhy.{JsonWhy}
 use Rattle.value_text.specs.declared.why.JsonWhy.TheVariants as why
-use Rattle.value_text.specs.Patches.{has_members, is_patch, op_in, patches_from}
+use Rattle.value_text.specs.Patches.{has_members, member_count, op_in, patches_from}
 use Rattle.value_text.specs.Reading.{json_of}
 
 -- ---- the form that is built so far: `{"do":"apply","patches":[..]}`, each patch of one entry of a flat object
 
-abbrev pub is_text : List ℕ → Option Data → Bool
+abbrev pub is_text : List ℕ → Option (List ℕ) → Bool
 is_text s None = false
-is_text s (Some (string t)) = bytes_eq t s
-is_text s (Some _) = false
+is_text s (Some t) = bytes_eq t s
+
+abbrev pub text_in : Option Data → Option (List ℕ)
+text_in o = option_and_then as_str o
+
+abbrev pub only_item : Items → Option Data
+only_item no_items = None
+only_item (item d no_items) = Some d
+only_item (item d (item e ds)) = None
 
 -- a path of one text
-abbrev pub is_name_path : Option Data → Bool
-is_name_path (Some (array (item (string s) no_items))) = true
-is_name_path _ = false
+abbrev pub has_name_path : Data → Bool
+has_name_path d = is_some (text_in (option_and_then only_item (option_and_then as_array (get (codes "path") d))))
 
 -- a number to be set, and nothing to be removed
-abbrev pub is_number : Option Data → Bool
-is_number (Some (number n)) = true
-is_number _ = false
-
 abbrev pub has_flat_value : Option Op → Option Data → Bool
 has_flat_value None v = false
 has_flat_value (Some Remove) v = is_none v
-has_flat_value (Some _) v = is_number v
+has_flat_value (Some _) v = is_some (option_and_then as_number v)
 
+-- the members of a patch and no other, the path of one text, and such a value
 abbrev pub is_flat_patch_data : Data → Bool
-is_flat_patch_data d = is_patch d && is_name_path (get (codes "path") d) && has_flat_value (op_in d) (get (codes "value") d)
+is_flat_patch_data d = has_members (member_count (get (codes "value") d)) d && has_name_path d && has_flat_value (op_in d) (get (codes "value") d)
 
 abbrev pub are_flat_items : Items → Bool
 are_flat_items no_items = true
 are_flat_items (item d ds) = is_flat_patch_data d && are_flat_items ds
 
-abbrev pub are_flat_patches : Data → Bool
-are_flat_patches (array ds) = are_flat_items ds
-are_flat_patches _ = false
+abbrev pub are_flat_if : Option Items → Bool
+are_flat_if None = false
+are_flat_if (Some ds) = are_flat_items ds
 
 -- the member `patches` of a line of this form
 abbrev pub flat_patches : Option Data → Option Data
 flat_patches None = None
-flat_patches (Some d) = if are_flat_patches d then Some d else None
+flat_patches (Some d) = if are_flat_if (as_array d) then Some d else None
 
 unfoldable pub apply_in : Data → Option Data
-apply_in d = if has_members 2 d && is_text (codes "apply") (get (codes "do") d) then flat_patches (get (codes "patches") d) else None
+apply_in d = if has_members 2 d && is_text (codes "apply") (text_in (get (codes "do") d)) then flat_patches (get (codes "patches") d) else None
 
 -- ---- the first fault
 
