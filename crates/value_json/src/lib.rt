@@ -4,9 +4,13 @@
 //! printed as `{"$obj":{..}}`. The definitions stand in `value_text`.
 #![tactic(auto)]
 
+mod fault;
 mod patches_json;
 mod printing;
+mod ranked;
+mod walk;
 
-pub use patches_json::{json_of_patches, json_of_path};
+pub use fault::JsonFault;
+pub use patches_json::{json_of_path, json_of_patches};
 pub use printing::{json_of_key, json_of_val};
 pub use value_text::JsonWhy;

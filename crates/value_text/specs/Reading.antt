@@ -70,14 +70,21 @@ abbrev pub set_members : Items → Table → Result Table JsonWhy
 set_members no_items found = Ok found
 set_members (item d ds) found = and_then (λ k. set_members ds (put key_cmp k (prim k) found)) (new_key_from d found)
 
+abbrev pub set_of : Items → Result Plain JsonWhy
+set_of ds = if are_primitive ds then result_map (λ es. node kind.Set (entries es)) (set_members ds []) else Err why.BadTag
+
 -- the value of a member `$set`
 abbrev pub set_in : Data → Result Plain JsonWhy
-set_in (array ds) = if are_primitive ds then result_map (λ es. node kind.Set (entries es)) (set_members ds []) else Err why.BadTag
+set_in (array ds) = set_of ds
 set_in _ = Err why.BadTag
 
 -- a field of an object, before those that follow
 abbrev pub with_field : List ℕ → Result Plain JsonWhy → Result Entries JsonWhy → Result Entries JsonWhy
 with_field name value rest = and_then (λ s. and_then (λ v. result_map (entry (key.Text s) v) rest) value) (text_from name)
+
+-- the object of one field
+abbrev pub one_field : List ℕ → Result Plain JsonWhy → Result Plain JsonWhy
+one_field name value = result_map (node kind.Obj) (with_field name value (Ok none))
 
 abbrev pub with_element : Result Plain JsonWhy → Result Entries JsonWhy → Result Entries JsonWhy
 with_element value rest = and_then (λ v. result_map (entry key.Null v) rest) value
@@ -85,6 +92,10 @@ with_element value rest = and_then (λ v. result_map (entry key.Null v) rest) va
 -- what the name of the only member of an object says
 abbrev pub by_tag : {X : Type 0} → List ℕ → X → X → X → X → X
 by_tag name map set obj other = if bytes_eq name (codes "$map") then map else (if bytes_eq name (codes "$set") then set else (if bytes_eq name (codes "$obj") then obj else other))
+
+-- a pair of a Map, its key before its value
+abbrev pub with_pair : Data → Result Plain JsonWhy → Table → Result Table JsonWhy
+with_pair k value found = and_then (λ j. result_map (λ v. put key_cmp j v found) value) (new_key_from k found)
 
 abbrev mutual
   -- the value, or the first fault of the walk
@@ -107,7 +118,7 @@ abbrev mutual
   -- a Map, a Set or an object in a tag, or an object
   pub object_in : Members → Result Plain JsonWhy
   object_in no_members = Ok (node kind.Obj none)
-  object_in (member name d no_members) = by_tag name (map_in d) (set_in d) (inner_object d) (result_map (node kind.Obj) (with_field name (walked d) (Ok none)))
+  object_in (member name d no_members) = by_tag name (map_in d) (set_in d) (inner_object d) (one_field name (walked d))
   object_in (member name d (member other e ms)) = result_map (node kind.Obj) (with_field name (walked d) (with_field other (walked e) (fields ms)))
 
   -- the value of a member `$obj`: its members are ordinary ones
@@ -124,13 +135,13 @@ abbrev mutual
   map_pairs no_items found = Ok found
   map_pairs (item d ds) found = and_then (map_pairs ds) (map_pair d found)
 
-  -- the table with a pair, its key before its value
+  -- the table with a pair
   pub map_pair : Data → Table → Result Table JsonWhy
   map_pair (array ds) found = pair_in ds found
   map_pair _ found = Err why.BadTag
 
   pub pair_in : Items → Table → Result Table JsonWhy
-  pair_in (item k (item d no_items)) found = and_then (λ j. result_map (λ v. put key_cmp j v found) (walked d)) (new_key_from k found)
+  pair_in (item k (item d no_items)) found = with_pair k (walked d) found
   pair_in _ found = Err why.BadTag
 
 abbrev limited_by : Plain → Option Limit → Result Plain JsonWhy
