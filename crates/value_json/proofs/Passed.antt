@@ -1,6 +1,6 @@
 -- A fault is passed on.
-use Rattle.std.proofs.Common.{◌≡◌, ap}
-use Rattle.std.specs.Prelude.{Result, Ok, Err}
+use Rattle.std.proofs.Common.{ap}
+use Rattle.std.specs.Prelude.{Result}
 use Rattle.value_text.specs.Answers.{and_then, result_map}
 use Rattle.value_text.specs.declared.why.JsonWhy.{JsonWhy}
 use Rattle.value_json.specs.Gives.{Fails}

@@ -1,14 +1,15 @@
 -- The walk, a step at a time.
-use Rattle.std.proofs.Common.{◌≡◌, ℕ, suc, ◌+◌, ◌<◌, List, [], ◌∷◌, ◌++◌, map, length, drop, get_or, add-one, drop-cons, Bool, true, false, ◌&&◌, cond, Option, Some, None, Result, Ok, Err, refl, ap, sym, ◌∙◌, subst, Ordering, Less, Equal, Greater, String, Global, string_bytes, string_cmp, nat_cmp, nat_lt, ◌^◌, arith}
+use Rattle.std.proofs.Common.{◌≡◌, ℕ, suc, ◌+◌, ◌<◌, ◌≤◌, List, [], ◌∷◌, ◌++◌, map, length, drop, get_or, add-one, drop-cons, Bool, true, false, ◌&&◌, cond, Option, Some, Result, Ok, Err, refl, ap, sym, ◌∙◌, subst, Ordering, Less, Equal, Greater, String, Global, string_bytes, string_cmp, nat_cmp, nat_lt, ◌^◌, arith}
 use Rattle.std.specs.Cmp.Lexicographic.{slice_cmp}
-use Rattle.std.specs.Prelude.{is_some, IsTrue, unwrap_or}
+use Rattle.std.proofs.lemmas.Grind.{common_steps}
+use Rattle.std.specs.Prelude.{is_some}
 use Rattle.std.specs.BTreeMap.{insert_entry, is_at}
 use Rattle.std.specs.Map.{lookup, keys_of}
 use Rattle.std.specs.List.{AllByRecursion}
 use Rattle.std.specs.List.Sorted.{IsStrictlySortedBy}
 use Rattle.std.specs.FinMap.Entries.{find, put, is_sorted, below_all, by_order}
 use Rattle.std.specs.Ordering.{is_eq, is_lt, on, match_ordering}
-use Rattle.serde_json.specs.Data.{Data, null, boolean, number, string, array, object, Items, no_items, item, Members}
+use Rattle.serde_json.specs.Data.{Data, Items, item}
 use Rattle.serde_json.specs.View.{view, items_view, members_view}
 use Rattle.serde_json.specs.declared.value.Value.{Value}
 use Rattle.serde_json.proofs.Views.{Entry as NameValue}
@@ -17,10 +18,10 @@ use Rattle.value_model.specs.declared.key.Key.TheVariants as key
 use Rattle.value_model.specs.Order.{key_cmp, key_exact}
 use Rattle.value_model.specs.Plain.{Plain, Entries, prim, node, none, entry, entries}
 use Rattle.value_model.specs.declared.words.Kind.TheVariants as kind
-use Rattle.values.specs.Seen.{of_item, of_field, of_items, of_fields}
+use Rattle.values.specs.Seen.{of_item, of_field}
 use Rattle.values.specs.declared.val.Field.{Field}
 use Rattle.value_text.specs.Answers.{and_then, result_map}
-use Rattle.value_text.specs.Reading.{Table, walked, elements, with_element, with_field, fields, text_from, object_in, pair_in, with_pair, map_pair, map_pairs, key_from, new_key, new_key_from, set_members}
+use Rattle.value_text.specs.Reading.{Table, all_from, walked, elements, with_element, with_field, fields, text_from, object_in, pair_in, with_pair, key_from, new_key, new_key_from, set_members}
 use Rattle.value_text.specs.declared.why.JsonWhy.TheVariants as why
 use Rattle.value_text.specs.declared.why.JsonWhy.{JsonWhy}
 use Rattle.value_json.specs.Gives.{Fails}
@@ -257,3 +258,41 @@ pub fields_sorted : (es rest : List NameValue) (out : List Field) → IsStrictly
 fields_sorted es rest out sorted moved over =
     let whole : keys out ≡ names es = sym (nothing_more (keys out)) ∙ ap (λ (ds : List NameValue). keys out ++ names ds) (sym over) ∙ moved in
     rising_keys out ∙ ap rising whole ∙ rising_names es sorted
+
+-- ---- what a reader says of each element in turn
+module _ {A : Type 0} (f : Data → Result A JsonWhy) where
+  abbrev pub Along : List A → List Value → List Value → Type 0
+  Along out rest vs = all_from f (items_view vs) ≡ result_map (λ (xs : List A). out ++ xs) (all_from f (items_view rest))
+
+  put_on : (out : List A) (a : A) (xs : List A) → out ++ a ∷ xs ≡ (out ++ a ∷ []) ++ xs
+  put_on [] a xs = refl
+  put_on (o ∷ out) a xs = ap (λ (ys : List A). o ∷ ys) (put_on out a xs)
+
+  one_on : (out : List A) (a : A) (r : Result (List A) JsonWhy) → result_map (λ (xs : List A). out ++ xs) (result_map (λ (xs : List A). a ∷ xs) r) ≡ result_map (λ (xs : List A). (out ++ a ∷ []) ++ xs) r
+  one_on out a (Ok xs) = ap Ok (put_on out a xs)
+  one_on out a (Err w) = refl
+
+  all_at : (vs : List Value) (i : ℕ) (v : Value) → i < length vs → v ≡ get_or vs i v → all_from f (items_view (drop i vs)) ≡ and_then (λ (a : A). result_map (λ (xs : List A). a ∷ xs) (all_from f (items_view (drop (i + 1) vs)))) (f (view v))
+  all_at vs i v h is = ap (all_from f) (items_at vs i v h is)
+
+  pub all_next : (vs : List Value) (i : ℕ) (v : Value) (out : List A) (a : A) → i < length vs → v ≡ get_or vs i v → f (view v) ≡ Ok a → Along out (drop i vs) vs → Along (out ++ a ∷ []) (drop (i + 1) vs) vs
+  all_next vs i v out a h is found so_far =
+      let rest = all_from f (items_view (drop (i + 1) vs)) in
+      so_far ∙ ap (result_map (λ (xs : List A). out ++ xs)) (all_at vs i v h is ∙ ap (and_then (λ (b : A). result_map (λ (xs : List A). b ∷ xs) rest)) found) ∙ one_on out a rest
+
+  pub all_fail : (vs : List Value) (i : ℕ) (v : Value) (out : List A) (e : JsonFault) → i < length vs → v ≡ get_or vs i v → Fails e (f (view v)) → Along out (drop i vs) vs → Fails e (all_from f (items_view vs))
+  all_fail vs i v out e h is failed so_far =
+      let rest = all_from f (items_view (drop (i + 1) vs)) in
+      let next : Result A JsonWhy → Result (List A) JsonWhy = and_then (λ (b : A). result_map (λ (xs : List A). b ∷ xs) rest) in
+      subst (Fails e) (sym (so_far ∙ ap (result_map (λ (xs : List A). out ++ xs)) (all_at vs i v h is)))
+      (passed_map (λ (xs : List A). out ++ xs) e (next (f (view v))) (passed_then (λ (b : A). result_map (λ (xs : List A). b ∷ xs) rest) e (f (view v)) failed))
+
+  ended : (out : List A) → out ++ [] ≡ out
+  ended [] = refl
+  ended (o ∷ out) = ap (λ (ys : List A). o ∷ ys) (ended out)
+
+  past : (vs : List Value) (i : ℕ) → length vs ≤ i → drop i vs ≡ []
+  past vs i h = grind (arith, common_steps)
+
+  pub all_done : (vs : List Value) (i : ℕ) (out : List A) → length vs ≤ i → Along out (drop i vs) vs → all_from f (items_view vs) ≡ Ok out
+  all_done vs i out h so_far = so_far ∙ ap (λ (ws : List Value). result_map (λ (xs : List A). out ++ xs) (all_from f (items_view ws))) (past vs i h) ∙ ap Ok (ended out)

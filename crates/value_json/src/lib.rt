@@ -8,9 +8,11 @@ mod fault;
 mod patches_json;
 mod printing;
 mod ranked;
+mod reading;
 mod walk;
 
 pub use fault::JsonFault;
-pub use patches_json::{json_of_path, json_of_patches};
+pub use patches_json::{json_of_patches, json_of_path};
 pub use printing::{json_of_key, json_of_val};
+pub use reading::{json_of_bytes, patches_of_json, path_of_json, val_of_json};
 pub use value_text::JsonWhy;

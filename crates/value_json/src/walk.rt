@@ -276,11 +276,7 @@ fn pairs_in(alloc: Global, items: &[Value]) -> Result<BTreeMap<Ranked, Val>, Jso
 
 /// The pair goes to those that were found.
 #[cycle(walk)]
-fn add_pair(
-    alloc: Global,
-    pair: &Value,
-    found: &mut BTreeMap<Ranked, Val>,
-) -> Result<(), JsonFault>
+fn add_pair(alloc: Global, pair: &Value, found: &mut BTreeMap<Ranked, Val>) -> Result<(), JsonFault>
     ensures { GivesBy (λ _. of_pairs found.new.entries) result (spec.map_pair (view pair.now) (of_pairs found.old.entries)) }
 {
     match pair {
@@ -321,11 +317,7 @@ fn add_entry(
 }
 
 /// The key of a pair, where it isn't there yet.
-fn new_key(
-    alloc: Global,
-    value: &Value,
-    found: &BTreeMap<Ranked, Val>,
-) -> Result<Ranked, JsonFault>
+fn new_key(alloc: Global, value: &Value, found: &BTreeMap<Ranked, Val>) -> Result<Ranked, JsonFault>
     ensures { GivesBy (λ r. r.key) result (spec.new_key_from (view value.now) (of_pairs found.now.entries)) }
 {
     let key = Ranked {

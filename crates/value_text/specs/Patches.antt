@@ -10,13 +10,15 @@ use Rattle.serde_json.specs.Written.{compact_text}
 use Rattle.value_model.specs.declared.key.Key.{Key}
 use Rattle.value_model.specs.declared.words.Op.{Op}
 use Rattle.value_model.specs.declared.words.Op.TheVariants as op
+use Rattle.value_model.specs.declared.words.Limit.{Limit}
+use Rattle.value_model.specs.Limits.{value_limit}
 use Rattle.value_model.specs.Plain.{Plain}
 use Rattle.values.specs.declared.patch.Patch.{Patch}
 use Rattle.value_text.specs.Answers.{and_then, result_map}
 use Rattle.value_text.specs.declared.why.JsonWhy.{JsonWhy}
 use Rattle.value_text.specs.declared.why.JsonWhy.TheVariants as why
 use Rattle.value_text.specs.Printing.{key_data, val_data}
-use Rattle.value_text.specs.Reading.{key_from, are_primitive, walked, limited, read_by, json_of}
+use Rattle.value_text.specs.Reading.{key_from, are_primitive, walked, limited_by, all_from, read_by, json_of}
 
 -- ---- printing
 
@@ -49,12 +51,8 @@ abbrev pub is_path : Data → Bool
 is_path (array ds) = are_primitive ds
 is_path _ = false
 
-abbrev pub keys_from : Items → Result (List Key) JsonWhy
-keys_from no_items = Ok []
-keys_from (item d ds) = and_then (λ k. result_map (λ ks. k ∷ ks) (keys_from ds)) (key_from d)
-
 abbrev pub steps_in : Data → Result (List Key) JsonWhy
-steps_in (array ds) = keys_from ds
+steps_in (array ds) = all_from key_from ds
 steps_in _ = Ok []
 
 unfoldable pub path_from : Data → Result (List Key) JsonWhy
@@ -103,21 +101,24 @@ patch_of op path value = record { op = op; path = path; value = value }
 abbrev pub patch_walked : Data → Result Patch JsonWhy
 patch_walked d = and_then (λ path. result_map (patch_of (unwrap_or (op_in d) op.Add) path) (walked_if (get (codes "value") d))) (steps_if (get (codes "path") d))
 
-abbrev pub patches_walked : Items → Result (List Patch) JsonWhy
-patches_walked no_items = Ok []
-patches_walked (item d ds) = and_then (λ p. result_map (λ ps. p ∷ ps) (patches_walked ds)) (patch_walked d)
+abbrev first_some : {X : Type 0} → Option X → Option X → Option X
+first_some None o = o
+first_some (Some x) o = Some x
 
-abbrev pub limited_if : Option Plain → Result (Option Plain) JsonWhy
-limited_if None = Ok None
-limited_if (Some v) = result_map Some (limited v)
+abbrev pub limit_if : Option Plain → Option Limit
+limit_if None = None
+limit_if (Some v) = value_limit v
 
--- the patches, where each value is past no limit
+-- the first limit that a value of the patches is past
+abbrev pub first_limit : List Patch → Option Limit
+first_limit [] = None
+first_limit (p ∷ ps) = first_some (limit_if p.value) (first_limit ps)
+
 abbrev pub all_limited : List Patch → Result (List Patch) JsonWhy
-all_limited [] = Ok []
-all_limited (p ∷ ps) = and_then (λ v. result_map (λ qs. p ∷ qs) (all_limited ps)) (limited_if p.value)
+all_limited ps = limited_by ps (first_limit ps)
 
 abbrev pub list_from : Items → Result (List Patch) JsonWhy
-list_from ds = if are_patches ds then and_then all_limited (patches_walked ds) else Err why.NotPatches
+list_from ds = if are_patches ds then and_then all_limited (all_from patch_walked ds) else Err why.NotPatches
 
 abbrev pub list_if : Option Items → Result (List Patch) JsonWhy
 list_if None = Err why.NotPatches

@@ -1,6 +1,6 @@
 -- The value that a JSON text (RFC 8259) is, or its first fault.
 -- The walk takes a container before its content, members in ascending order, elements and pairs in the text's order.
-use Rattle.std.specs.Prelude.{ℕ, ◌^◌, ◌&&◌, nat_le, nat_lt, ℤ, pos, negsuc, int_lt, List, [], length, Bool, true, false, codes, if◌then◌else◌, Option, Some, None, is_some, Result, Ok, Err}
+use Rattle.std.specs.Prelude.{ℕ, ◌^◌, ◌&&◌, nat_le, nat_lt, ℤ, pos, negsuc, int_lt, List, [], ◌∷◌, length, Bool, true, false, codes, if◌then◌else◌, Option, Some, None, is_some, Result, Ok, Err}
 use Rattle.std.specs.Str.{bytes_eq, is_utf8}
 use Rattle.std.specs.FinMap.Entries.{find, put}
 use Rattle.serde_json.specs.Data.{Num, unsigned, negative, float, Data, null, boolean, number, string, array, object, Items, no_items, item, Members, no_members, member}
@@ -144,9 +144,9 @@ abbrev mutual
   pair_in (item k (item d no_items)) found = with_pair k (walked d) found
   pair_in _ found = Err why.BadTag
 
-abbrev limited_by : Plain → Option Limit → Result Plain JsonWhy
-limited_by v None = Ok v
-limited_by v (Some l) = Err (why.Limit l)
+abbrev pub limited_by : {X : Type 0} → X → Option Limit → Result X JsonWhy
+limited_by x None = Ok x
+limited_by x (Some l) = Err (why.Limit l)
 
 -- the value, where it is past no limit
 abbrev pub limited : Plain → Result Plain JsonWhy
@@ -155,6 +155,11 @@ limited v = limited_by v (value_limit v)
 -- the value of JSON data, or the first fault of the walk, or else the first limit
 unfoldable pub val_from : Data → Result Plain JsonWhy
 val_from d = and_then limited (walked d)
+
+-- what f says of each element in turn
+abbrev pub all_from : {X : Type 0} → (Data → Result X JsonWhy) → Items → Result (List X) JsonWhy
+all_from f no_items = Ok []
+all_from f (item d ds) = and_then (λ x. result_map (λ xs. x ∷ xs) (all_from f ds)) (f d)
 
 -- what a reader of data says of bytes
 abbrev pub read_by : {X : Type 0} → (Data → Result X JsonWhy) → Option Data → Result X JsonWhy

@@ -1,7 +1,4 @@
-use Rattle.std.proofs.Common.{◌≡◌, true, false, sym, ◌∙◌}
-use Rattle.std.specs.Prelude.{is_some}
-use Rattle.serde_json.specs.View.{items_view}
-use Rattle.value_text.specs.Reading.{set_members}
+use Rattle.std.proofs.Common.{sym, ◌∙◌}
 use Rattle.value_json.specs.Ranks.{of_marks}
 use Rattle.value_json.proofs.Steps.{set_next, set_twice, found_marks, insert_marks}
 use Rattle.value_json.proofs.walk.marks_in.Goals as goal
