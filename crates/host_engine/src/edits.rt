@@ -89,12 +89,7 @@ fn number_in(patch: &Patch) -> Option<Safe>
     }
 }
 
-fn set_entry(
-    alloc: Global,
-    table: &mut Table,
-    name: &Text,
-    number: Safe,
-) -> Result<bool, EditFault>
+fn set_entry(alloc: Global, table: &mut Table, name: &Text, number: Safe) -> Result<bool, EditFault>
     ensures { Edits table.old table.new (in_object op.Add (key.Text name.now) (Some (number_of number)) table.old) result }
 {
     if is_reserved(name) {
