@@ -75,3 +75,47 @@ lines-front bytes more = record {
 pub lines-lf : (bytes : List ℕ) → lines (bytes ++ 10 ∷ []) ≡ whole_lines bytes ++ rest_of bytes ∷ []
 unfolding lines
 lines-lf bytes = ap (λ (p : Cut). p.whole ++ last_line p.rest) (cut-lf bytes) ∙ append-nil (whole_lines bytes ++ rest_of bytes ∷ [])
+
+-- bytes without LF go onto the rest
+cut-no_lf : (chunk : List ℕ) → HasNoLf chunk → cut chunk ≡ record { whole = []; rest = chunk }
+unfolding cut
+cut-no_lf [] h = refl
+cut-no_lf (c ∷ cs) h = rw (ne_eqb c 10 h.0) (ap (λ (p : Cut). onto_line c p.whole p.rest) (cut-no_lf cs h.1))
+
+no_lf-append : (r chunk : List ℕ) → HasNoLf r → HasNoLf chunk → HasNoLf (r ++ chunk)
+no_lf-append [] chunk h g = g
+no_lf-append (c ∷ r) chunk h g = (h.0, no_lf-append r chunk h.1 g)
+
+pub cut-chunk : (bytes chunk : List ℕ) → HasNoLf chunk → cut (bytes ++ chunk) ≡ record { whole = whole_lines bytes; rest = rest_of bytes ++ chunk }
+cut-chunk bytes chunk h = cut-append bytes chunk ∙ ap (joined (cut bytes).whole) (cut-no_lf (rest_of bytes ++ chunk) (no_lf-append (rest_of bytes) chunk (rest-no_lf bytes) h))
+    ∙ ap (λ (ls : List (List ℕ)). let p : Cut = record { whole = ls; rest = rest_of bytes ++ chunk } in p) (append-nil (whole_lines bytes))
+
+-- and with an LF behind them they end a line
+pub cut-line : (bytes chunk : List ℕ) → HasNoLf chunk → cut (bytes ++ (chunk ++ 10 ∷ [])) ≡ record { whole = whole_lines bytes ++ (rest_of bytes ++ chunk) ∷ []; rest = [] }
+cut-line bytes chunk h = ap cut (sym (append_assoc bytes chunk (10 ∷ []))) ∙ cut-lf (bytes ++ chunk)
+    ∙ ap (λ (p : Cut). let q : Cut = record { whole = p.whole ++ p.rest ∷ []; rest = [] } in q) (cut-chunk bytes chunk h)
+
+pub lines-line : (bytes chunk : List ℕ) → HasNoLf chunk → lines (bytes ++ (chunk ++ 10 ∷ [])) ≡ whole_lines bytes ++ (rest_of bytes ++ chunk) ∷ []
+unfolding lines
+lines-line bytes chunk h = ap (λ (p : Cut). p.whole ++ last_line p.rest) (cut-line bytes chunk h) ∙ append-nil (whole_lines bytes ++ (rest_of bytes ++ chunk) ∷ [])
+
+-- what is behind the last LF is the last line, where it has bytes
+pub lines-rest : (bytes : List ℕ) → (length (rest_of bytes) ≡ 0 → ⊥) → lines bytes ≡ whole_lines bytes ++ rest_of bytes ∷ []
+unfolding lines
+lines-rest bytes h = ap (λ (ls : List (List ℕ)). whole_lines bytes ++ ls) (last_some (rest_of bytes) h)
+  where
+  last_some : (r : List ℕ) → (length r ≡ 0 → ⊥) → last_line r ≡ r ∷ []
+  last_some [] h = absurd (h refl)
+  last_some (c ∷ cs) h = refl
+
+pub lines-whole : (bytes : List ℕ) → length (rest_of bytes) ≡ 0 → lines bytes ≡ whole_lines bytes
+unfolding lines
+lines-whole bytes h = ap (λ (ls : List (List ℕ)). whole_lines bytes ++ ls) (last_none (rest_of bytes) h) ∙ append-nil (whole_lines bytes)
+  where
+  last_none : (r : List ℕ) → length r ≡ 0 → last_line r ≡ []
+  last_none [] h = refl
+  last_none (c ∷ cs) h = absurd (omega arith)
+
+pub cut-nil : cut [] ≡ record { whole = []; rest = [] }
+unfolding cut
+cut-nil = refl

@@ -1,0 +1,7 @@
+pub mod AnswerLaws
+pub mod AtLaws
+pub mod FeedLaws
+pub mod LfLaws
+pub mod LineLaws
+pub mod SendLaws
+pub mod ServeLaws

@@ -1,0 +1,7 @@
+use Rattle.std.proofs.Common.{[], List, ℕ, subst, sym}
+use Rattle.host_shell.specs.Line.{LineState, Holds}
+use Rattle.host_shell.proofs.LineLaws.{holds_nothing}
+use Rattle.host_shell.proofs.line.Line.clear.Goals as goal
+
+pub returns-clause-line : goal.returns-clause-line
+returns-clause-line c = rw c.clear.ensures.items holds_nothing
