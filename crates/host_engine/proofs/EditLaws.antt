@@ -1,19 +1,17 @@
 -- An edit of the table is the patch on the state.
-use Rattle.std.proofs.Common.{◌≡◌, ℕ, ℤ, List, [], ◌∷◌, refl, sym, ap, ◌∙◌, subst, true, false, Bool}
-use Rattle.std.specs.Prelude.{IsTrue, Option, Some, None, Result, Ok, Err, not, ◌&&◌}
+use Rattle.std.proofs.Common.{◌≡◌, ℕ, ℤ, List, [], ◌∷◌, ap, false, Bool}
+use Rattle.std.specs.Prelude.{IsTrue, Option, Some, None, Result, Ok, Err}
 use Rattle.value_model.specs.declared.key.Key.{Key}
 use Rattle.value_model.specs.declared.key.Key.TheVariants as key
 use Rattle.value_model.specs.declared.words.Kind.TheVariants as kind
 use Rattle.value_model.specs.declared.words.Op.{Op}
 use Rattle.value_model.specs.declared.words.Op.TheVariants as op
-use Rattle.value_model.specs.declared.words.PatchWhy.{PatchWhy}
 use Rattle.value_model.specs.Plain.{Plain, Table}
 use Rattle.value_model.specs.Steps.{list_of_entries}
-use Rattle.patch_meaning.specs.Applying.{as_node, edited, in_object, patched}
-use Rattle.host_machine.specs.Differences.{same_table}
+use Rattle.patch_meaning.specs.Applying.{as_node, edited, in_object}
 use Rattle.host_machine.specs.Flat.{is_flat_value}
 use Rattle.host_engine.specs.Edits.{Edits, EditsState, is_number}
-use Rattle.host_engine.specs.Kept.{number_of, state_of}
+use Rattle.host_engine.specs.Kept.{number_of}
 use Rattle.host_engine.specs.declared.edits.EditFault.{EditFault}
 use Rattle.host_engine.specs.declared.edits.EditFault.TheVariants as fault
 

@@ -1,12 +1,11 @@
 -- Patches pushed one after another, up to the differences of two tables.
-use Rattle.std.proofs.Common.{◌≡◌, ◌<◌, ◌≤◌, ◌+◌, ℕ, zero, suc, List, [], ◌∷◌, ◌++◌, map, refl, sym, ap, ◌∙◌, subst, drop, length, get_or, add-one, append_assoc, append-nil, arith, Less, Equal, Greater, Ordering, ◌⊎◌, inl, inr, Bool, true}
+use Rattle.std.proofs.Common.{◌≡◌, ◌<◌, ◌≤◌, ◌+◌, ℕ, zero, suc, List, [], ◌∷◌, ◌++◌, map, refl, sym, ap, ◌∙◌, drop, length, get_or, add-one, append_assoc, append-nil, arith, Less, Equal, Greater, ◌⊎◌, inl, inr}
 use Rattle.std.specs.Prelude.{IsTrue, Some, None}
 use Rattle.std.proofs.Math.Seq.{drop-cons}
 use Rattle.std.specs.FinMap.Entries.{is_sorted}
-use Rattle.value_model.specs.declared.key.Key.{Key}
 use Rattle.value_model.specs.declared.words.Op.TheVariants.{Add, Remove}
 use Rattle.value_model.specs.Order.{key_cmp}
-use Rattle.value_model.specs.Plain.{Plain, Table as TableOf}
+use Rattle.value_model.specs.Plain.{Table as TableOf}
 use Rattle.value_model.specs.Search.{right_true}
 use Rattle.values.specs.declared.patch.Patch.{Patch}
 use Rattle.host_machine.specs.Differences.{patch, differences}

@@ -1,6 +1,5 @@
 -- The fields of a host as a table.
-use Rattle.std.proofs.Common.{◌≡◌, List, [], ◌∷◌, map, refl, ap, true}
-use Rattle.std.proofs.lemmas.Cmp.{tied_itself}
+use Rattle.std.proofs.Common.{List, [], ◌∷◌, map}
 use Rattle.value_model.specs.Tables.{is_eq-same}
 use Rattle.value_model.specs.declared.key.Key.TheVariants as key
 use Rattle.host_machine.proofs.TableLaws.{HasPrimitives}

@@ -1,5 +1,5 @@
 -- What the edits of a table answer and leave, beside want of memory.
-use Rattle.std.specs.Prelude.{◌≡◌, ℕ, Bool, false, not, List, Option, Some, None, Result, Ok, Err}
+use Rattle.std.specs.Prelude.{◌≡◌, Bool, false, not, List, Option, Some, None, Result, Ok, Err}
 use Rattle.value_model.specs.declared.key.Key.{Key}
 use Rattle.value_model.specs.declared.words.Op.{Op}
 use Rattle.value_model.specs.declared.words.PatchWhy.{PatchWhy}

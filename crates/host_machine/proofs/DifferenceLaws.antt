@@ -1,7 +1,7 @@
 -- The differences of two ascending tables, entry by entry from the front.
-use Rattle.std.proofs.Common.{◌≡◌, List, [], ◌∷◌, ◌++◌, map, ap, refl, sym, ◌∙◌, subst, Bool, true, false, Option, Some, None, Less, Equal, Greater, Ordering, cond}
+use Rattle.std.proofs.Common.{◌≡◌, List, [], ◌∷◌, ◌++◌, ap, refl, sym, ◌∙◌, subst, Bool, true, false, Option, Some, None, Less, Equal, Greater, Ordering}
 use Rattle.std.specs.Prelude.{IsTrue, ◌&&◌}
-use Rattle.std.specs.Ordering.{is_eq, is_lt, eq_by_cmp, ordering_reverse}
+use Rattle.std.specs.Ordering.{is_lt}
 use Rattle.std.specs.FinMap.Entries.{find, put, is_sorted, below_all}
 use Rattle.value_model.specs.declared.key.Key.{Key}
 use Rattle.value_model.specs.declared.words.Op.TheVariants.{Add, Remove}

@@ -1,14 +1,13 @@
 -- The step at a list of flat patches: they are applied from the first one on.
-use Rattle.std.proofs.Common.{◌≡◌, ℕ, List, [], ◌∷◌, ap, refl, sym, ◌∙◌, Bool, true, false}
-use Rattle.std.specs.Prelude.{IsTrue, ◌&&◌, ◌||◌, Result, Ok, Err, Some, None, Option}
+use Rattle.std.proofs.Common.{◌≡◌, List, [], ◌∷◌, ap, refl, sym, ◌∙◌, Bool, false}
+use Rattle.std.specs.Prelude.{IsTrue, Result, Err}
 use Rattle.value_model.specs.declared.key.Key.{Key}
-use Rattle.value_model.specs.declared.key.Key.TheVariants as key
 use Rattle.value_model.specs.declared.words.Op.{Op}
 use Rattle.value_model.specs.declared.words.Op.TheVariants as op
 use Rattle.value_model.specs.Plain.{Plain}
 use Rattle.value_model.specs.Search.{left_true, right_true}
 use Rattle.values.specs.declared.patch.Patch.{Patch}
-use Rattle.patch_meaning.specs.Applying.{Fault, is_root, has_root_replace, is_root_replace, applied, applied_from}
+use Rattle.patch_meaning.specs.Applying.{Fault, is_root, has_root_replace, applied, applied_from}
 use Rattle.host_machine.specs.Flat.{is_flat_path, is_flat_value, is_flat_patch, are_flat}
 use Rattle.host_machine.specs.Machine.{Machine, apply_step, judged, writes}
 

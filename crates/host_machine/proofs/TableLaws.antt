@@ -1,14 +1,13 @@
 -- When a table is the same as before.
-use Rattle.std.proofs.Common.{◌≡◌, ◌≢◌, ℕ, zero, suc, ◌<◌, ◌+◌, List, [], ◌∷◌, length, map, ap, refl, sym, ◌∙◌, subst, Bool, true, false, arith, get_or, set, Option, Some, None, Less, Equal, Greater, Ordering, cond}
-use Rattle.std.specs.Prelude.{IsTrue, ◌&&◌, not}
-use Rattle.std.specs.Ordering.{is_eq, eq_by_cmp}
-use Rattle.std.specs.FinMap.Entries.{find, put, is_sorted, same_entries}
+use Rattle.std.proofs.Common.{◌≡◌, ◌≢◌, ℕ, zero, suc, ◌<◌, List, [], ◌∷◌, length, map, ap, refl, sym, ◌∙◌, subst, Bool, true, false, arith, get_or, set, None, Less, Equal, Greater, Ordering}
+use Rattle.std.specs.Prelude.{IsTrue, ◌&&◌}
+use Rattle.std.specs.FinMap.Entries.{find, is_sorted, same_entries}
 use Rattle.std.proofs.lemmas.Cmp.{tied_itself}
 use lib.Dec.{T}
 use Rattle.value_model.specs.declared.key.Key.{Key}
 use Rattle.value_model.specs.Order.{key_cmp, key_total, key_exact}
 use Rattle.value_model.specs.Places.{without_key}
-use Rattle.value_model.specs.Plain.{Plain, Table, prim, node}
+use Rattle.value_model.specs.Plain.{Plain, Table}
 use Rattle.value_model.specs.Tables.{is_eq-same, find_without_same, find_without_other, without_ascends}
 use Rattle.host_machine.specs.Differences.{same, same_table}
 

@@ -6,7 +6,7 @@ use Rattle.value_model.specs.declared.key.Key.{Key}
 use Rattle.value_model.specs.declared.words.Op.{Op}
 use Rattle.value_model.specs.declared.words.Op.TheVariants.{Add, Replace, Remove}
 use Rattle.value_model.specs.Order.{key_cmp}
-use Rattle.value_model.specs.Plain.{Plain, Table, prim, node, list_of, key_weight, weight}
+use Rattle.value_model.specs.Plain.{Plain, Table, prim, key_weight, weight}
 use Rattle.values.specs.declared.patch.Patch.{Patch}
 
 -- two primitives are the same by value; containers would be by their numbers, and a flat table has none

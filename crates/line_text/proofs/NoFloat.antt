@@ -1,5 +1,5 @@
 -- The data of a reply holds no float.
-use Rattle.std.proofs.Common.{◌≡◌, false, refl, Option, Some, None}
+use Rattle.std.proofs.Common.{◌≡◌, false, refl, Some, None}
 use Rattle.serde_json.specs.Written.{has_float}
 use Rattle.plain_values.specs.declared.reply.Reply.{Reply}
 use Rattle.plain_values.specs.declared.reply.Reply.TheVariants as reply

@@ -3,7 +3,6 @@ use Rattle.std.specs.Prelude.{ℕ, ◌&&◌, List, length, Bool, true, false, co
 use Rattle.std.specs.Str.{bytes_eq}
 use Rattle.serde_json.specs.Data.{Data, Items, no_items, item}
 use Rattle.serde_json.specs.Find.{get, as_array, as_number, as_str}
-use Rattle.value_model.specs.declared.words.Limit.{Limit}
 use Rattle.value_model.specs.declared.words.Op.{Op}
 use Rattle.value_model.specs.declared.words.Op.TheVariants.{Remove}
 use Rattle.values.specs.declared.patch.Patch.{Patch}

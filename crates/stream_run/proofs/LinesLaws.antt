@@ -1,5 +1,5 @@
 -- Where a stream that grows is cut.
-use Rattle.std.proofs.Common.{◌≡◌, ◌≢◌, ◌<◌, ℕ, List, [], ◌∷◌, ◌++◌, length, ap, refl, sym, ◌∙◌, append_assoc, append-nil, Bool, true, false, ◌==◌, ◌+◌, arith, cond}
+use Rattle.std.proofs.Common.{◌≡◌, ◌≢◌, ℕ, List, [], ◌∷◌, ◌++◌, length, ap, refl, sym, ◌∙◌, append_assoc, append-nil, Bool, true, false, ◌==◌, arith, cond}
 use Rattle.std.proofs.lemmas.Bool.{ne_eqb, eqb-false}
 use Rattle.std.specs.List.{AllByRecursion}
 use Rattle.stream_run.specs.Lines.{Cut, cut, ended, onto_line, whole_lines, rest_of, last_line, lines}
@@ -104,17 +104,17 @@ pub lines-rest : (bytes : List ℕ) → (length (rest_of bytes) ≡ 0 → ⊥) �
 unfolding lines
 lines-rest bytes h = ap (λ (ls : List (List ℕ)). whole_lines bytes ++ ls) (last_some (rest_of bytes) h)
   where
-  last_some : (r : List ℕ) → (length r ≡ 0 → ⊥) → last_line r ≡ r ∷ []
-  last_some [] h = absurd (h refl)
-  last_some (c ∷ cs) h = refl
+    last_some : (r : List ℕ) → (length r ≡ 0 → ⊥) → last_line r ≡ r ∷ []
+    last_some [] h = absurd (h refl)
+    last_some (c ∷ cs) h = refl
 
 pub lines-whole : (bytes : List ℕ) → length (rest_of bytes) ≡ 0 → lines bytes ≡ whole_lines bytes
 unfolding lines
 lines-whole bytes h = ap (λ (ls : List (List ℕ)). whole_lines bytes ++ ls) (last_none (rest_of bytes) h) ∙ append-nil (whole_lines bytes)
   where
-  last_none : (r : List ℕ) → length r ≡ 0 → last_line r ≡ []
-  last_none [] h = refl
-  last_none (c ∷ cs) h = absurd (omega arith)
+    last_none : (r : List ℕ) → length r ≡ 0 → last_line r ≡ []
+    last_none [] h = refl
+    last_none (c ∷ cs) h = absurd (omega arith)
 
 pub cut-nil : cut [] ≡ record { whole = []; rest = [] }
 unfolding cut

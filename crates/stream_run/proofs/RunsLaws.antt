@@ -1,7 +1,7 @@
 -- How a run goes on.
-use Rattle.std.proofs.Common.{◌≡◌, ◌≢◌, ℕ, List, [], ◌∷◌, ◌++◌, ap, refl, sym, ◌∙◌, append_assoc, append-nil}
+use Rattle.std.proofs.Common.{◌≡◌, ℕ, List, [], ◌∷◌, ◌++◌, ap, refl, sym, ◌∙◌, append_assoc, append-nil}
 use Rattle.host_machine.specs.Machine.{Machine}
-use Rattle.stream_run.specs.Lines.{cut, whole_lines, rest_of, lines}
+use Rattle.stream_run.specs.Lines.{whole_lines, lines}
 use Rattle.stream_run.specs.Runs.{line_answer, machine_after, replies, after}
 use Rattle.stream_run.specs.Endings.{IsPrefix}
 use Rattle.stream_run.proofs.LinesLaws.{lines-front}

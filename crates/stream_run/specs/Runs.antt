@@ -1,5 +1,5 @@
 -- What is answered to lines: each is a command of the machine, or has a refusal of its own, which leaves the machine.
-use Rattle.std.specs.Prelude.{ℕ, List, [], ◌∷◌, ◌++◌, Option, None, Result, Ok, Err, if◌then◌else◌}
+use Rattle.std.specs.Prelude.{ℕ, List, [], ◌∷◌, ◌++◌, None, Result, Ok, Err, if◌then◌else◌}
 use Rattle.plain_values.specs.declared.command.Command.{Command}
 use Rattle.plain_values.specs.declared.command.Word.TheVariants as word
 use Rattle.plain_values.specs.declared.reply.Reply.{Reply}

@@ -1,5 +1,5 @@
 use Rattle.std.proofs.Common.{◌≡◌, ◌∷◌, [], false}
-use Rattle.std.specs.Prelude.{Some, None, IsTrue}
+use Rattle.std.specs.Prelude.{Some, IsTrue}
 use Rattle.value_model.specs.declared.key.Key.TheVariants as key
 use Rattle.host_machine.specs.Flat.{is_flat_path, is_flat_value}
 use Rattle.host_engine.specs.Edits.{is_number}

@@ -1,4 +1,4 @@
-use Rattle.std.proofs.Common.{◌≡◌, drop, ◌+◌}
+use Rattle.std.proofs.Common.{◌≡◌, drop}
 use Rattle.std.specs.Prelude.{IsTrue, ◌||◌}
 use Rattle.patch_meaning.specs.Applying.{applied_from}
 use Rattle.host_machine.specs.Flat.{are_flat}

@@ -1,5 +1,4 @@
-use Rattle.std.proofs.Common.{sym, ◌∙◌, arith, ap, rules, Less, Greater, Equal}
-use Rattle.host_engine.specs.Kept.{of_field}
+use Rattle.std.proofs.Common.{sym, ◌∙◌, arith}
 use Rattle.host_engine.proofs.PairLaws.{merged_less, merged_greater, merged_equal, sorted_next}
 use Rattle.host_engine.proofs.pairs.merge.Goals as goal
 

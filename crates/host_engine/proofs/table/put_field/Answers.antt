@@ -1,12 +1,9 @@
-use Rattle.std.proofs.Common.{◌≡◌, ◌≢◌, refl, ap, sym, ◌∙◌, length, arith, subst, List, map, false, true}
+use Rattle.std.proofs.Common.{◌≢◌, refl, length, arith, map}
 use Rattle.std.proofs.lemmas.List.{length-map}
-use Rattle.std.specs.Prelude.{not, IsTrue}
-use Rattle.std.specs.FinMap.Entries.{put, is_sorted}
-use Rattle.value_model.specs.Order.{key_cmp, key_exact}
-use Rattle.value_model.specs.Plain.{prim, Plain}
+use Rattle.value_model.specs.Order.{key_exact}
+use Rattle.value_model.specs.Plain.{prim}
 use Rattle.value_model.specs.Search.{put_found, put_gap}
 use Rattle.value_model.specs.Tables.{put_ascends}
-use Rattle.value_model.specs.declared.key.Key.{Key}
 use Rattle.value_model.specs.declared.key.Key.TheVariants as key
 use Rattle.host_machine.proofs.TableLaws.{same_set, other_length}
 use Rattle.host_engine.specs.Kept.{of_field}

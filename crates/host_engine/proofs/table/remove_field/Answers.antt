@@ -1,12 +1,7 @@
-use Rattle.std.proofs.Common.{◌≡◌, ◌≢◌, refl, ap, sym, ◌∙◌, length, arith, subst, List, map, false, true, pos}
+use Rattle.std.proofs.Common.{◌≢◌, refl, sym, length, arith, map, pos}
 use Rattle.std.proofs.lemmas.List.{length-map}
-use Rattle.std.specs.Prelude.{not, IsTrue}
-use Rattle.std.specs.FinMap.Entries.{put, is_sorted, find}
-use Rattle.value_model.specs.Order.{key_cmp, key_exact}
-use Rattle.value_model.specs.Plain.{prim, Plain}
 use Rattle.value_model.specs.Search.{remove_found, absent_at}
 use Rattle.value_model.specs.Tables.{without_ascends}
-use Rattle.value_model.specs.declared.key.Key.{Key}
 use Rattle.value_model.specs.declared.key.Key.TheVariants as key
 use Rattle.host_machine.proofs.TableLaws.{same_self, other_length, without_absent}
 use Rattle.host_engine.specs.Kept.{of_field}

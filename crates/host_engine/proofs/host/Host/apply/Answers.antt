@@ -1,8 +1,8 @@
 use Rattle.std.proofs.Common.{◌≡◌, ◌∙◌, sym, ap, subst, true, false}
-use Rattle.std.specs.Prelude.{IfOk, Ok, Err}
-use Rattle.value_model.specs.Plain.{Plain, Table as TableOf}
+use Rattle.std.specs.Prelude.{IfOk, Ok}
+use Rattle.value_model.specs.Plain.{Table as TableOf}
 use Rattle.plain_values.specs.declared.reply.Reply.{Reply}
-use Rattle.host_machine.specs.Machine.{Machine, Turned, apply_step}
+use Rattle.host_machine.specs.Machine.{Machine, Turned}
 use Rattle.host_machine.proofs.StepLaws.{step_judged, step_refused}
 use Rattle.host_engine.specs.Kept.{state_of}
 use Rattle.host_engine.proofs.host.Host.apply.Goals as goal

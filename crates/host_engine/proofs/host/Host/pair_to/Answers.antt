@@ -1,5 +1,4 @@
-use Rattle.std.proofs.Common.{◌≡◌, ◌∙◌, sym, ap}
-use Rattle.value_model.specs.Plain.{Plain}
+use Rattle.std.proofs.Common.{◌∙◌, sym, ap}
 use Rattle.values.specs.declared.patch.Pair.{Pair}
 use Rattle.host_machine.specs.Machine.{Turned, between}
 use Rattle.host_engine.specs.Kept.{state_of}

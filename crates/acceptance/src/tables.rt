@@ -1,0 +1,95 @@
+//! The worked examples: command lines, each with its reply.
+use std::alloc::{AllocError, Global};
+
+/// One run on the empty object: the lines in order, a blank one with no reply.
+pub const ROWS: [(&str, &str); 19] = [
+    (
+        r#"{"do":"apply","patches":[{"op":"add","path":["n"],"value":1}]}"#,
+        r#"{"inverse":[{"op":"remove","path":["n"]}],"ok":"apply","patches":[{"op":"add","path":["n"],"value":1}],"root":2,"seq":1}"#,
+    ),
+    (
+        r#"{"do":"apply","patches":[{"op":"add","path":["n"],"value":1}]}"#,
+        r#"{"inverse":[],"ok":"apply","patches":[],"root":2,"seq":1}"#,
+    ),
+    (
+        r#"{"do":"apply","patches":[{"op":"replace","path":["n"],"value":1}]}"#,
+        r#"{"inverse":[],"ok":"apply","patches":[],"root":2,"seq":1}"#,
+    ),
+    (
+        r#"{"do":"apply","patches":[{"op":"add","path":["m"],"value":5},{"op":"remove","path":["m"]}]}"#,
+        r#"{"inverse":[],"ok":"apply","patches":[],"root":3,"seq":2}"#,
+    ),
+    (
+        r#"{"do":"apply","patches":[{"op":"remove","path":["q"]}]}"#,
+        r#"{"inverse":[],"ok":"apply","patches":[],"root":3,"seq":2}"#,
+    ),
+    (r#"{"do":"undo"}"#, r#"{"no":"line","why":"NotYet"}"#),
+    (
+        r#"{"do":"apply","patches":[{"op":"add","path":["__proto__"],"value":1}]}"#,
+        r#"{"at":0,"no":"apply","why":"ReservedKey"}"#,
+    ),
+    (
+        r#"{"do":"apply","patches":[{"op":"add","path":["a"],"value":1},{"op":"remove","path":["constructor"]}]}"#,
+        r#"{"at":1,"no":"apply","why":"ReservedKey"}"#,
+    ),
+    (" ", ""),
+    ("\t \r", ""),
+    ("", ""),
+    (
+        r#"{"do":"apply","patches":[{"op":"add","path":["n"],"value":9007199254740992}]}"#,
+        r#"{"no":"line","why":"NotSafeInteger"}"#,
+    ),
+    (
+        r#"{"do":"apply","patches":[{"op":"add","path":["n"],"value":1.0}]}"#,
+        r#"{"no":"line","why":"NotSafeInteger"}"#,
+    ),
+    (
+        r#"{"do":"apply","patches":[{"op":"add","path":["n"],"value":-9007199254740991}]}"#,
+        r#"{"inverse":[{"op":"replace","path":["n"],"value":1}],"ok":"apply","patches":[{"op":"replace","path":["n"],"value":-9007199254740991}],"root":4,"seq":3}"#,
+    ),
+    (
+        r#"{"do":"apply","patches":[{"op":"add","path":["z"],"value":3},{"op":"remove","path":["n"]},{"op":"add","path":["a"],"value":2}]}"#,
+        r#"{"inverse":[{"op":"remove","path":["a"]},{"op":"add","path":["n"],"value":-9007199254740991},{"op":"remove","path":["z"]}],"ok":"apply","patches":[{"op":"add","path":["a"],"value":2},{"op":"remove","path":["n"]},{"op":"add","path":["z"],"value":3}],"root":5,"seq":4}"#,
+    ),
+    ("nul", r#"{"no":"line","why":"NotJson"}"#),
+    (r#"{"do":"apply"}"#, r#"{"no":"line","why":"NotYet"}"#),
+    (
+        r#"{"do":"apply","patches":[]}"#,
+        r#"{"inverse":[],"ok":"apply","patches":[],"root":5,"seq":4}"#,
+    ),
+    (
+        r#"{"do":"apply","patches":[{"op":"add","path":["é\n"],"value":7}]}"#,
+        r#"{"inverse":[{"op":"remove","path":["é\n"]}],"ok":"apply","patches":[{"op":"add","path":["é\n"],"value":7}],"root":6,"seq":5}"#,
+    ),
+];
+
+/// The lines of the run, each with its LF.
+pub fn lines(alloc: Global) -> Result<String, AllocError> {
+    let mut text = String::new(alloc);
+    for (line, _) in ROWS {
+        text.push_str(line)?;
+        text.push_str("\n")?;
+    }
+    Ok(text)
+}
+
+/// The replies of the run, each with its LF.
+pub fn replies(alloc: Global) -> Result<String, AllocError> {
+    let mut text = String::new(alloc);
+    for (_, reply) in ROWS {
+        if !reply.is_empty() {
+            text.push_str(reply)?;
+            text.push_str("\n")?;
+        }
+    }
+    Ok(text)
+}
+
+/// The one word.
+pub fn words(alloc: Global, list: &[&str]) -> Result<Vec<String>, AllocError> {
+    let mut words = Vec::new(alloc);
+    for word in list {
+        words.push(String::from_str(alloc, word)?)?;
+    }
+    Ok(words)
+}
