@@ -1,3 +1,5 @@
+pub mod CarryLaws
 pub mod DifferenceLaws
+pub mod PatchLaws
 pub mod StepLaws
 pub mod TableLaws

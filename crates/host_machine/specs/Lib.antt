@@ -1,3 +1,4 @@
+pub mod Carries
 pub mod Differences
 pub mod Flat
 pub mod Machine

@@ -1,7 +1,7 @@
 -- A line of the form that is built so far is a command of that form.
-use Rattle.std.proofs.Common.{◌≡◌, ℕ, ℤ, List, [], ◌∷◌, refl, sym, ap, ◌∙◌, subst, true, false, Bool, cond}
-use Rattle.std.specs.Prelude.{IsTrue, ◌&&◌, Option, Some, None, is_some, is_none, option_and_then, Result, Ok, Err, nat_lt, ◌^◌, length, codes, unwrap_or}
-use Rattle.serde_json.specs.Data.{Num, Data, null, boolean, number, string, array, object, Items, no_items, item}
+use Rattle.std.proofs.Common.{◌≡◌, ℕ, ℤ, List, [], ◌∷◌, refl, subst, true, false, Bool, cond}
+use Rattle.std.specs.Prelude.{IsTrue, ◌&&◌, Option, Some, None, is_some, option_and_then, Result, Ok, Err, codes, unwrap_or}
+use Rattle.serde_json.specs.Data.{Data, null, boolean, number, string, array, object, Items, no_items, item}
 use Rattle.serde_json.specs.Find.{get, as_array, as_number, as_str}
 use Rattle.value_model.specs.declared.key.Key.{Key}
 use Rattle.value_model.specs.declared.key.Key.TheVariants as key
@@ -11,15 +11,13 @@ use Rattle.value_model.specs.declared.words.Limit.{Limit}
 use Rattle.value_model.specs.Plain.{Plain, prim}
 use Rattle.value_model.specs.Search.{left_true, right_true}
 use Rattle.values.specs.declared.patch.Patch.{Patch}
-use Rattle.plain_values.specs.declared.command.Command.{Command}
-use Rattle.plain_values.specs.declared.command.Command.TheVariants as command
 use Rattle.value_text.specs.Answers.{and_then, result_map}
 use Rattle.value_text.specs.declared.why.JsonWhy.{JsonWhy}
 use Rattle.value_text.specs.declared.why.JsonWhy.TheVariants as why
-use Rattle.value_text.specs.Patches.{steps_if, steps_in, walked_if, patch_of, patch_walked, all_limited, list_from, list_if, patches_from, are_patches, op_in, has_members, member_count, first_limit}
-use Rattle.value_text.specs.Reading.{text_from, key_from, safe_from, walked, all_from, limited_by, json_of}
-use Rattle.host_machine.specs.Flat.{is_integer, is_flat_path, is_flat_value, is_flat_patch, are_flat, is_built}
-use Rattle.line_text.specs.Commands.{text_in, only_item, has_name_path, has_flat_value, is_flat_patch_data, are_flat_items, are_flat_if, flat_patches, apply_in, with_patches, of_form, of_json, is_long_line, command_of, is_text}
+use Rattle.value_text.specs.Patches.{steps_if, walked_if, patch_of, patch_walked, all_limited, list_if, patches_from, are_patches, op_in, has_members, member_count, first_limit}
+use Rattle.value_text.specs.Reading.{text_from, key_from, safe_from, walked, all_from, limited_by}
+use Rattle.host_machine.specs.Flat.{is_integer, is_flat_path, is_flat_value, is_flat_patch, are_flat}
+use Rattle.line_text.specs.Commands.{text_in, only_item, has_name_path, has_flat_value, is_flat_patch_data, are_flat_items, are_flat_if, flat_patches, apply_in, is_text}
 
 abbrev Answer : Type 0 → Type 0
 Answer X = Result X JsonWhy

@@ -1,17 +1,15 @@
 -- How a run goes on, and how it stops.
-use Rattle.std.proofs.Common.{◌≡◌, ◌≢◌, ◌<◌, ◌≤◌, ◌+◌, ◌-◌, ◌^◌, ℕ, List, [], ◌∷◌, ◌++◌, length, take, drop, refl, sym, ap, ◌∙◌, subst, arith, append_assoc, append-nil, Option, Some, None, true, false, cond, Bool}
-use Rattle.std.proofs.KnownBytes.{Appends-trans, Appends-nil, Consumes-trans, Consumes-nil}
-use Rattle.std.proofs.lemmas.List.{length-append}
-use Rattle.std.proofs.Math.Seq.{take-append_seam}
-use Rattle.std.specs.Io.KnownBytes.{Appends, Consumes, IsAtEnd, Keeps}
+use Rattle.std.proofs.Common.{◌≡◌, ◌≤◌, ◌+◌, ◌^◌, ℕ, List, [], ◌∷◌, ◌++◌, length, refl, sym, ap, ◌∙◌, subst, arith, append_assoc, append-nil, Option, Some, None}
+use Rattle.std.proofs.KnownBytes.{Appends-trans, Appends-nil}
+use Rattle.std.specs.Io.KnownBytes.{Appends, Consumes}
 use Rattle.host_machine.specs.Machine.{Machine, Turned}
-use Rattle.stream_run.specs.Lines.{Cut, cut, whole_lines, rest_of, lines, is_blank}
+use Rattle.stream_run.specs.Lines.{Cut, whole_lines, rest_of, lines}
 use Rattle.stream_run.specs.Runs.{line_answer, machine_after, replies, after}
-use Rattle.stream_run.specs.Endings.{IsPrefix, Run, Ran, IsServed, IsStopped, IsUnread, IsUnwritten, IsOverlong}
+use Rattle.stream_run.specs.Endings.{IsPrefix, Ran}
 use Rattle.stream_run.proofs.LinesLaws.{HasNoLf, cut-nil, cut-chunk, cut-line, lines-front, lines-line, lines-rest, lines-whole}
 use Rattle.stream_run.proofs.RunsLaws.{replies-one, after-one, prefix_lines, prefix_after}
 use Rattle.host_shell.specs.At.{IsAt, IsHalted}
-use Rattle.host_shell.specs.Ends.{Ends, IsAnswered, IsHeld, TakesPart}
+use Rattle.host_shell.specs.Ends.{IsAnswered, IsHeld}
 use Rattle.host_shell.specs.Line.{LineState, Holds}
 use Rattle.host_shell.specs.declared.status.Status.{Status}
 use Rattle.host_shell.specs.declared.status.Status.TheVariants as status

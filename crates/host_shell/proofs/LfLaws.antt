@@ -1,5 +1,5 @@
 -- Where the first LF is.
-use Rattle.std.proofs.Common.{◌≡◌, ◌≢◌, ◌<◌, ◌≤◌, ◌+◌, ℕ, zero, suc, List, [], ◌∷◌, ◌++◌, length, take, drop, get_or, refl, ap, sym, ◌∙◌, arith, add-one}
+use Rattle.std.proofs.Common.{◌≡◌, ◌<◌, ◌≤◌, ℕ, zero, suc, List, [], ◌∷◌, ◌++◌, length, take, drop, get_or, ap, arith, add-one}
 use Rattle.stream_run.proofs.LinesLaws.{HasNoLf}
 use Rattle.host_shell.specs.At.{LfAt}
 

@@ -1,6 +1,6 @@
 -- What is kept of a line.
-use Rattle.std.proofs.Common.{◌≡◌, ◌≢◌, ◌<◌, ◌≤◌, ◌+◌, ◌-◌, min, ℕ, zero, suc, List, [], ◌∷◌, ◌++◌, length, take, refl, sym, ap, ◌∙◌, subst, arith, append-nil, Bool, true, false, ◌⊎◌, inl, inr, cond, nat_lt}
-use Rattle.std.specs.Prelude.{◌&&◌, Result, Ok, Err}
+use Rattle.std.proofs.Common.{◌≡◌, ◌<◌, ◌≤◌, ◌+◌, ◌-◌, min, ℕ, zero, suc, List, [], ◌∷◌, ◌++◌, length, take, refl, sym, ap, ◌∙◌, arith, Bool, true, false, ◌⊎◌, inl, inr}
+use Rattle.std.specs.Prelude.{◌&&◌, Err}
 use Rattle.std.proofs.lemmas.List.Folds.{list_all-append}
 use Rattle.std.proofs.lemmas.List.{length-append}
 use Rattle.std.proofs.lemmas.Bool.Decides.{Decides-ltb}
@@ -9,7 +9,7 @@ use Rattle.host_machine.specs.Machine.{Machine}
 use Rattle.line_text.specs.Commands.{command_of, is_long_line}
 use Rattle.stream_run.specs.Lines.{is_blank, is_space}
 use Rattle.stream_run.specs.Runs.{answer, answer_to}
-use Rattle.host_shell.specs.Line.{LineState, Holds}
+use Rattle.host_shell.specs.Line.{Holds}
 
 take_none : (ys : List ℕ) (k : ℕ) → k ≡ 0 → take k ys ≡ []
 take_none [] k e = rw e refl

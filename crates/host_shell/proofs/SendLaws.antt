@@ -1,8 +1,7 @@
 -- A part of some bytes was taken.
-use Rattle.std.proofs.Common.{◌≡◌, ℕ, List, [], ◌∷◌, ◌++◌, Option, Some, None, refl, sym, ap, ◌∙◌, append-nil, take, drop, take-append-drop, subst}
+use Rattle.std.proofs.Common.{ℕ, List, [], Option, Some, None, refl, ◌∙◌, append-nil, take, drop, take-append-drop}
 use Rattle.std.specs.Io.KnownBytes.{Appends, Keeps}
 use Rattle.std.proofs.KnownBytes.{Appends-nil}
-use Rattle.stream_run.specs.Endings.{IsPrefix}
 use Rattle.host_shell.specs.Ends.{TakesPart}
 
 appends_kept : (a b c : Option (List ℕ)) (xs : List ℕ) → Appends a b xs → Keeps b c → Appends a c xs

@@ -1,5 +1,5 @@
 -- How a run over a whole stream ends.
-use Rattle.std.proofs.Common.{◌≡◌, ◌≢◌, ◌<◌, ◌≤◌, ◌+◌, ◌-◌, ◌^◌, ℕ, zero, suc, List, [], ◌∷◌, ◌++◌, Option, Some, None, length, take, drop, refl, sym, ap, ◌∙◌, subst, append_assoc, append-nil, arith, true, false, cond, ◌==◌}
+use Rattle.std.proofs.Common.{◌≡◌, ◌≢◌, ◌<◌, ◌≤◌, ◌+◌, ◌-◌, ◌^◌, ℕ, zero, suc, List, [], ◌∷◌, ◌++◌, Option, Some, None, length, take, drop, refl, sym, ap, ◌∙◌, subst, append_assoc, append-nil, arith, true, false, ◌==◌}
 use Rattle.std.proofs.KnownBytes.{Appends-nil, Consumes-trans, Consumes-kept}
 use Rattle.std.proofs.Math.Seq.{take-append_seam}
 use Rattle.std.proofs.lemmas.List.{length-append, length-drop, length-take-le, take-append-drop}
@@ -8,7 +8,7 @@ use Rattle.std.specs.Io.KnownBytes.{Appends, Consumes, IsAtEnd, Keeps}
 use Rattle.host_machine.specs.Machine.{Machine, Turned}
 use Rattle.stream_run.specs.Lines.{whole_lines, rest_of, lines}
 use Rattle.stream_run.specs.Runs.{replies}
-use Rattle.stream_run.specs.Endings.{IsPrefix, Ran, IsServed, IsStopped, IsUnread, IsOverlong}
+use Rattle.stream_run.specs.Endings.{IsPrefix, Ran, IsStopped}
 use Rattle.stream_run.proofs.RunsLaws.{prefix_lines}
 use Rattle.host_shell.specs.At.{IsAt, IsHalted, Finishes, Overruns}
 use Rattle.host_shell.specs.Ends.{Ends, StopsFor, IsAnswered, IsHeld, IsDoneOrMemory, IsWithin}

@@ -4,7 +4,7 @@ use Rattle.std.proofs.Common.{take, drop}
 use Rattle.std.specs.Io.KnownBytes.{Appends}
 use Rattle.host_machine.specs.Machine.{Machine, Turned}
 use Rattle.stream_run.proofs.LinesLaws.{HasNoLf}
-use Rattle.stream_run.specs.Lines.{whole_lines, rest_of, lines}
+use Rattle.stream_run.specs.Lines.{whole_lines, rest_of}
 use Rattle.stream_run.specs.Runs.{replies, after}
 use Rattle.stream_run.specs.Endings.{IsStopped, IsUnwritten}
 use Rattle.host_shell.specs.Ends.{Ends}

@@ -1,11 +1,11 @@
 -- What stands at each status of a run, and what calls that answer lines leave.
-use Rattle.std.specs.Prelude.{◌≡◌, ◌≢◌, ℕ, ◌≤◌, ◌^◌, List, [], ◌∷◌, ◌++◌, length, Option, Some, None, IfSome, MatchResult, ◌<◌, Result, Ok, Err, true, false, ◌+◌}
+use Rattle.std.specs.Prelude.{◌≡◌, ℕ, ◌≤◌, ◌^◌, List, [], length, Option, Some, None, MatchResult, ◌<◌, Result, Ok, Err, false}
 use Rattle.std.specs.Io.KnownBytes.{Appends, Consumes, IsAtEnd, Keeps}
 use Rattle.std.proofs.Common.{take}
 use Rattle.io_edges.specs.Causes.{Rose}
 use Rattle.host_machine.specs.Machine.{Machine, Turned}
-use Rattle.stream_run.specs.Lines.{is_blank, whole_lines, lines, rest_of}
-use Rattle.stream_run.specs.Runs.{line_answer, machine_after, replies, after}
+use Rattle.stream_run.specs.Lines.{is_blank}
+use Rattle.stream_run.specs.Runs.{line_answer, machine_after}
 use Rattle.stream_run.specs.Endings.{IsPrefix, IsServed, IsStopped, IsUnread, IsUnwritten, IsOverlong}
 use Rattle.host_shell.specs.declared.status.Status.{Status}
 use Rattle.host_shell.specs.declared.status.Status.TheVariants.{Done, Usage, ReadFault, WriteFault, Memory, TooLong}

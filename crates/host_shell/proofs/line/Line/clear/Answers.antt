@@ -1,5 +1,3 @@
-use Rattle.std.proofs.Common.{[], List, ℕ, subst, sym}
-use Rattle.host_shell.specs.Line.{LineState, Holds}
 use Rattle.host_shell.proofs.LineLaws.{holds_nothing}
 use Rattle.host_shell.proofs.line.Line.clear.Goals as goal
 

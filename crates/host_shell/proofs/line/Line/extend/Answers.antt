@@ -1,4 +1,4 @@
-use Rattle.std.proofs.Common.{◌∙◌, arith, sym, length, length-take}
+use Rattle.std.proofs.Common.{◌∙◌, arith, sym, length-take}
 use Rattle.host_shell.proofs.LineLaws.{holds_more, spoken_more}
 use Rattle.host_shell.proofs.line.Line.extend.Goals as goal
 
