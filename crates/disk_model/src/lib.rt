@@ -4,6 +4,8 @@
 
 mod disk;
 mod file;
+mod through;
 
 pub use disk::Disk;
 pub use file::FileDisk;
+pub use through::write_through;
