@@ -1,3 +1,5 @@
 pub mod Disk
 pub mod File
 pub mod Images
+pub mod Memory
+pub mod MemoryLaws

@@ -2,10 +2,14 @@
 //! and a disk over a file.
 #![tactic(auto)]
 
+mod call;
 mod disk;
 mod file;
+mod memory;
 mod through;
 
+pub use call::{DiskCall, Piece};
 pub use disk::Disk;
 pub use file::FileDisk;
+pub use memory::MemDisk;
 pub use through::write_through;
