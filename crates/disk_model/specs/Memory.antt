@@ -82,3 +82,6 @@ pub record KeepsCall {T E : Type 0} (old new : DiskState) (done failed : DiskCal
   pub at_listed : Contains old.listed (length old.calls) → IsErr result
   pub ok : OnOk result (new ≡ with_call old done)
   pub err : OnErr result ((Contains old.listed (length old.calls) × (new ≡ with_failed old failed)) ⊎ (new ≡ with_refused old))
+  -- the counts don't fall
+  pub faults_later : old.faults ≤ new.faults
+  pub refused_later : old.refused ≤ new.refused

@@ -1,7 +1,10 @@
 ghost use Rattle.std.specs.Prelude.{◌≡◌, ◌<◌, ◌≤◌, ◌+◌, ◌^◌, ℕ, List, [], ◌++◌, length, take, drop, IfOk, OnOk, OnErr, IsTrue, ◌↔◌, Contains, ◌⊎◌};
-ghost use Rattle.io_edges.specs.Causes.{HasCause, next_count};
+ghost use Rattle.std.specs.Io.{ReadsAtMost};
+ghost use Rattle.io_edges.specs.Causes.{HasCause, CountsFaults, FailsAsListed};
+ghost use Rattle.disk_model.specs.Disk.{written, Torn, Cut, Follows, AddsNone, IsSettled, Elapses};
 
 use crate::call::{DiskCall, Piece};
+use crate::disk::Disk;
 use io_edges::Failed;
 use std::alloc::{AllocError, Global};
 use std::marker::Model;
@@ -34,7 +37,7 @@ impl Model for MemDisk {
 }
 
 impl MemDisk {
-    ghost use Rattle.disk_model.specs.Memory.{after_call, bytes_of, with_call, with_failed, with_refused, KeepsCall};
+    ghost use Rattle.disk_model.specs.Memory.{after_call, bytes_of, with_call, with_failed, with_refused, KeepsCall, MayLeave, LeftSince, moment_of};
     ghost use Rattle.disk_model.specs.declared.call.DiskCall.TheVariants.{Looked, Wrote, WriteFailed, CutOff, CutFailed, Synced};
 
     /// A disk that is settled on `bytes`, of which the calls with the numbers in `faults`, counted
@@ -80,7 +83,8 @@ impl MemDisk {
 
     /// Counts a call for which memory was refused.
     fn refuse(&mut self) -> Failed
-        ensures { self.new ≡ with_refused self.old }
+        ensures refused { self.new ≡ with_refused self.old }
+        ensures later { (self.old.faults ≤ self.new.faults) × (self.old.refused ≤ self.new.refused) }
     {
         self.faults = self.faults.saturating_add(1);
         self.refused = self.refused.saturating_add(1);
@@ -100,7 +104,8 @@ impl MemDisk {
     /// Keeps a call that fails because its number is listed.
     fn fail(&mut self, call: DiskCall) -> Failed
         requires { (bytes : List ℕ) → after_call bytes call ≡ bytes }
-        ensures { (self.new ≡ with_failed self.old call) ⊎ (self.new ≡ with_refused self.old) }
+        ensures kept { (self.new ≡ with_failed self.old call) ⊎ (self.new ≡ with_refused self.old) }
+        ensures later { (self.old.faults ≤ self.new.faults) × (self.old.refused ≤ self.new.refused) }
     {
         if self.keep(call).is_err() {
             return self.refuse();
@@ -109,18 +114,209 @@ impl MemDisk {
         Failed
     }
 
-    /// A call that only looks.
-    fn look(&mut self) -> Result<(), Failed>
-        ensures { KeepsCall self.old self.new Looked Looked result }
+    /// A call that leaves the bytes as they were, and looks only where it fails.
+    fn pass(&mut self, done: DiskCall) -> Result<(), Failed>
+        requires { (bytes : List ℕ) → after_call bytes done ≡ bytes }
+        ensures { KeepsCall self.old self.new done Looked result }
     {
         if self.is_listed() {
             return Err(self.fail(DiskCall::Looked));
         }
-        if self.keep(DiskCall::Looked).is_err() {
+        if self.keep(done).is_err() {
             return Err(self.refuse());
         }
         Ok(())
     }
+
+    /// A call that only looks.
+    fn look(&mut self) -> Result<(), Failed>
+        ensures same { bytes_of self.new ≡ bytes_of self.old }
+        ensures images { AddsNone (MayLeave self.old) (MayLeave self.new) }
+        ensures time { Elapses moment_of LeftSince MayLeave self.old self.new }
+        ensures cause { HasCause self.old.faults self.new.faults result }
+        ensures kept { KeepsCall self.old self.new Looked Looked result }
+        ensures fails { FailsAsListed self.old.listed (length self.old.calls) self.old.refused self.new.refused result }
+        ensures counts { CountsFaults self.old.faults self.new.faults result }
+    {
+        self.pass(DiskCall::Looked)
+    }
+
+    /// Writes over the bytes and past their end, and keeps the call.
+    fn keep_write(&mut self, at: u64, piece: &[u8]) -> Result<(), AllocError>
+        requires { at ≤ length (bytes_of self.old) }
+        ensures ok { OnOk result (self.new ≡ with_call self.old (Wrote at piece.now)) }
+        ensures err { OnErr result (self.new ≡ self.old) }
+    {
+        let kept = Piece::from_slice(self.alloc, piece)?;
+        self.calls.reserve(1)?;
+        overwrite(&mut self.bytes, at as usize, piece)?;
+        self.calls.push_reserved(DiskCall::Wrote(at, kept));
+        Ok(())
+    }
+
+    /// A write.
+    fn put(&mut self, at: u64, piece: &[u8]) -> Result<(), Failed>
+        requires { at ≤ length (bytes_of self.old) }
+        ensures { KeepsCall self.old self.new (Wrote at piece.now) (WriteFailed at (length piece.now)) result }
+    {
+        if self.is_listed() {
+            return Err(self.fail(DiskCall::WriteFailed(at, piece.len())));
+        }
+        if self.keep_write(at, piece).is_err() {
+            return Err(self.refuse());
+        }
+        Ok(())
+    }
+
+    /// Cuts the bytes off, and keeps the call.
+    fn keep_cut(&mut self, end: u64) -> Result<(), AllocError>
+        ensures ok { OnOk result (self.new ≡ with_call self.old (CutOff end)) }
+        ensures err { OnErr result (self.new ≡ self.old) }
+    {
+        self.calls.push(DiskCall::CutOff(end))?;
+        self.bytes.truncate(end as usize);
+        Ok(())
+    }
+
+    /// A cut.
+    fn cut_off(&mut self, end: u64) -> Result<(), Failed>
+        ensures { KeepsCall self.old self.new (CutOff end) (CutFailed end) result }
+    {
+        if self.is_listed() {
+            return Err(self.fail(DiskCall::CutFailed(end)));
+        }
+        if self.keep_cut(end).is_err() {
+            return Err(self.refuse());
+        }
+        Ok(())
+    }
+}
+
+impl Disk for MemDisk {
+    ghost use Rattle.disk_model.specs.Memory.{after_call, bytes_of, told_of, MayLeave, moment_of, LeftSince, KeepsCall};
+    ghost use Rattle.disk_model.specs.MemoryLaws.{now_counts, now_only, reads_image};
+    ghost use Rattle.disk_model.specs.declared.call.DiskCall.TheVariants.{Looked, Wrote, WriteFailed, CutOff, CutFailed, Synced};
+
+    ghost told = { told_of };
+
+    ghost may_leave = { MayLeave };
+
+    ghost moment = { moment_of };
+
+    ghost left_since = { LeftSince };
+
+    ghost faults = { λ s. s.faults };
+
+    ghost counts_now = { now_counts };
+
+    ghost only_now = { now_only };
+
+    ghost reads_an_image = { reads_image };
+
+    fn length(&mut self) -> Result<u64, Failed>
+        ensures answer { IfOk result (λ n. n ≡ length (bytes_of self.old)) }
+        ensures within { IfOk result (λ n. n < 2 ^ 63) }
+        ensures bytes { told_of self.new ≡ told_of self.old }
+        ensures images { AddsNone (MayLeave self.old) (MayLeave self.new) }
+        ensures time { Elapses moment_of LeftSince MayLeave self.old self.new }
+        ensures cause { HasCause self.old.faults self.new.faults result }
+        ensures kept { KeepsCall self.old self.new Looked Looked result }
+        ensures fails { FailsAsListed self.old.listed (length self.old.calls) self.old.refused self.new.refused result }
+        ensures counts { CountsFaults self.old.faults self.new.faults result }
+    {
+        self.look()?;
+        Ok(self.bytes.len() as u64)
+    }
+
+    fn read(&mut self, at: u64, buf: &mut [u8]) -> Result<usize, Failed>
+        requires { at < 2 ^ 63 }
+        ensures bound { ReadsAtMost result buf.new }
+        ensures answer { IfOk result (λ n. take n buf.new ≡ take (length buf.new) (drop at (bytes_of self.old))) }
+        ensures bytes { told_of self.new ≡ told_of self.old }
+        ensures images { AddsNone (MayLeave self.old) (MayLeave self.new) }
+        ensures time { Elapses moment_of LeftSince MayLeave self.old self.new }
+        ensures cause { HasCause self.old.faults self.new.faults result }
+        ensures kept { KeepsCall self.old self.new Looked Looked result }
+        ensures fails { FailsAsListed self.old.listed (length self.old.calls) self.old.refused self.new.refused result }
+        ensures counts { CountsFaults self.old.faults self.new.faults result }
+    {
+        self.look()?;
+        Ok(copy_from(&self.bytes, at as usize, buf))
+    }
+
+    fn write_at(&mut self, at: u64, piece: &[u8]) -> Result<(), Failed>
+        requires begins { at ≤ length (bytes_of self.old) }
+        requires within { at + length piece.now < 2 ^ 63 }
+        ensures done { OnOk result (told_of self.new ≡ Some (written at piece.now (bytes_of self.old))) }
+        ensures failed { OnErr result (told_of self.new ≡ told_of self.old) }
+        ensures images { Follows (Torn at (length piece.now)) (MayLeave self.old) (MayLeave self.new) }
+        ensures time { Elapses moment_of LeftSince MayLeave self.old self.new }
+        ensures cause { HasCause self.old.faults self.new.faults result }
+        ensures kept { KeepsCall self.old self.new (Wrote at piece.now) (WriteFailed at (length piece.now)) result }
+        ensures fails { FailsAsListed self.old.listed (length self.old.calls) self.old.refused self.new.refused result }
+        ensures counts { CountsFaults self.old.faults self.new.faults result }
+    {
+        self.put(at, piece)
+    }
+
+    fn cut(&mut self, end: u64) -> Result<(), Failed>
+        requires ends { end ≤ length (bytes_of self.old) }
+        requires within { end < 2 ^ 63 }
+        ensures done { OnOk result (told_of self.new ≡ Some (take end (bytes_of self.old))) }
+        ensures failed { OnErr result (told_of self.new ≡ told_of self.old) }
+        ensures images { Follows (Cut end) (MayLeave self.old) (MayLeave self.new) }
+        ensures time { Elapses moment_of LeftSince MayLeave self.old self.new }
+        ensures cause { HasCause self.old.faults self.new.faults result }
+        ensures kept { KeepsCall self.old self.new (CutOff end) (CutFailed end) result }
+        ensures fails { FailsAsListed self.old.listed (length self.old.calls) self.old.refused self.new.refused result }
+        ensures counts { CountsFaults self.old.faults self.new.faults result }
+    {
+        self.cut_off(end)
+    }
+
+    fn sync(&mut self) -> Result<(), Failed>
+        ensures done { OnOk result (IsSettled told_of MayLeave self.new) }
+        ensures bytes { told_of self.new ≡ told_of self.old }
+        ensures images { AddsNone (MayLeave self.old) (MayLeave self.new) }
+        ensures time { Elapses moment_of LeftSince MayLeave self.old self.new }
+        ensures cause { HasCause self.old.faults self.new.faults result }
+        ensures kept { KeepsCall self.old self.new Synced Looked result }
+        ensures fails { FailsAsListed self.old.listed (length self.old.calls) self.old.refused self.new.refused result }
+        ensures counts { CountsFaults self.old.faults self.new.faults result }
+    {
+        self.pass(DiskCall::Synced)
+    }
+}
+
+/// Copies bytes from the place `at` on: as many as there is room for, fewer only at the end.
+fn copy_from(bytes: &[u8], at: usize, buf: &mut [u8]) -> usize
+    ensures bound { result ≤ length buf.new }
+    ensures copied { take result buf.new ≡ take (length buf.new) (drop at bytes.now) }
+{
+    let at = at.min(bytes.len());
+    copy_front(&bytes[at..], buf)
+}
+
+/// Copies as many bytes as there are, or as there is room for.
+fn copy_front(bytes: &[u8], buf: &mut [u8]) -> usize
+    ensures bound { result ≤ length buf.new }
+    ensures copied { take result buf.new ≡ take (length buf.new) bytes.now }
+{
+    let count = bytes.len().min(buf.len());
+    buf[..count].copy_from_slice(&bytes[..count]);
+    count
+}
+
+/// Puts a piece over the bytes from `at` on, and past their end.
+fn overwrite(bytes: &mut Vec<u8>, at: usize, piece: &[u8]) -> Result<(), AllocError>
+    requires { at ≤ length bytes.old.items }
+    ensures ok { OnOk result (bytes.new.items ≡ written at piece.now bytes.old.items) }
+    ensures err { OnErr result (bytes.new.items ≡ bytes.old.items) }
+{
+    let overlap = piece.len().min(bytes.len() - at);
+    bytes.extend_from_slice(&piece[overlap..])?;
+    bytes[at..at + overlap].copy_from_slice(&piece[..overlap]);
+    Ok(())
 }
 
 /// Whether a number is listed.
