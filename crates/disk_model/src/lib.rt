@@ -2,13 +2,16 @@
 //! and a disk over a file.
 #![tactic(auto)]
 
+mod bytes;
 mod call;
+mod crash;
 mod disk;
 mod file;
 mod memory;
 mod through;
 
 pub use call::{DiskCall, Piece};
+pub use crash::Crash;
 pub use disk::Disk;
 pub use file::FileDisk;
 pub use memory::MemDisk;

@@ -3,7 +3,9 @@ ghost use Rattle.std.specs.Io.{ReadsAtMost};
 ghost use Rattle.io_edges.specs.Causes.{HasCause, CountsFaults, FailsAsListed};
 ghost use Rattle.disk_model.specs.Disk.{written, Torn, Cut, Follows, AddsNone, IsSettled, Elapses};
 
+use crate::bytes::{copy_from, overwrite};
 use crate::call::{DiskCall, Piece};
+use crate::crash::{Crash, crash_image};
 use crate::disk::Disk;
 use io_edges::Failed;
 use std::alloc::{AllocError, Global};
@@ -37,7 +39,8 @@ impl Model for MemDisk {
 }
 
 impl MemDisk {
-    ghost use Rattle.disk_model.specs.Memory.{after_call, bytes_of, with_call, with_failed, with_refused, KeepsCall, MayLeave, LeftSince, moment_of};
+    ghost use Rattle.disk_model.specs.Memory.{after_call, bytes_of, with_call, with_failed, with_refused, KeepsCall, MayLeave, LeftSince, moment_of, IsImageOf};
+    ghost use Rattle.disk_model.specs.Crash.{crashed};
     ghost use Rattle.disk_model.specs.declared.call.DiskCall.TheVariants.{Looked, Wrote, WriteFailed, CutOff, CutFailed, Synced};
 
     /// A disk that is settled on `bytes`, of which the calls with the numbers in `faults`, counted
@@ -72,6 +75,21 @@ impl MemDisk {
         ensures { result ≡ self.now.refused }
     {
         self.refused
+    }
+
+    /// The disk that a crash of this kind leaves after the first `calls` calls, or after all calls
+    /// where there were fewer. It is settled on the image, no call of it is to fail, and its calls
+    /// are counted from 0. The only error is want of memory.
+    pub fn after_crash(&self, alloc: Global, calls: u64, kind: Crash) -> Result<MemDisk, AllocError>
+        ensures image { IfOk result (λ disk. disk.first ≡ crashed kind self.now.first (take calls self.now.calls)) }
+        ensures allowed { IfOk result (λ disk. IsImageOf self.now.first (take calls self.now.calls) disk.first) }
+        ensures calls { IfOk result (λ disk. disk.calls ≡ []) }
+        ensures listed { IfOk result (λ disk. disk.listed ≡ []) }
+        ensures begins { IfOk result (λ disk. (disk.faults ≡ 0) × (disk.refused ≡ 0)) }
+    {
+        let count = first_of(&self.calls, calls);
+        let image = crash_image(alloc, &self.first, &self.calls[..count], kind)?;
+        MemDisk::new(alloc, &image, &[])
     }
 
     /// Whether the next call is to fail.
@@ -288,40 +306,19 @@ impl Disk for MemDisk {
     }
 }
 
-/// Copies bytes from the place `at` on: as many as there is room for, fewer only at the end.
-fn copy_from(bytes: &[u8], at: usize, buf: &mut [u8]) -> usize
-    ensures bound { result ≤ length buf.new }
-    ensures copied { take result buf.new ≡ take (length buf.new) (drop at bytes.now) }
-{
-    let at = at.min(bytes.len());
-    copy_front(&bytes[at..], buf)
-}
-
-/// Copies as many bytes as there are, or as there is room for.
-fn copy_front(bytes: &[u8], buf: &mut [u8]) -> usize
-    ensures bound { result ≤ length buf.new }
-    ensures copied { take result buf.new ≡ take (length buf.new) bytes.now }
-{
-    let count = bytes.len().min(buf.len());
-    buf[..count].copy_from_slice(&bytes[..count]);
-    count
-}
-
-/// Puts a piece over the bytes from `at` on, and past their end.
-fn overwrite(bytes: &mut Vec<u8>, at: usize, piece: &[u8]) -> Result<(), AllocError>
-    requires { at ≤ length bytes.old.items }
-    ensures ok { OnOk result (bytes.new.items ≡ written at piece.now bytes.old.items) }
-    ensures err { OnErr result (bytes.new.items ≡ bytes.old.items) }
-{
-    let overlap = piece.len().min(bytes.len() - at);
-    bytes.extend_from_slice(&piece[overlap..])?;
-    bytes[at..at + overlap].copy_from_slice(&piece[..overlap]);
-    Ok(())
-}
-
 /// Whether a number is listed.
 fn holds(listed: &[u64], number: u64) -> bool
     ensures { IsTrue result ↔ Contains listed.now number }
 {
     listed.contains(&number)
+}
+
+/// How many of the calls are among the first so many.
+fn first_of(calls: &[DiskCall], count: u64) -> usize
+    ensures within { result ≤ length calls.now }
+    ensures same { take result calls.now ≡ take count calls.now }
+{
+    calls
+        .len()
+        .min(usize::try_from(count).unwrap_or(usize::MAX))
 }
