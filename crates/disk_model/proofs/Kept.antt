@@ -1,11 +1,11 @@
 -- What one more call makes of a disk in memory.
-use Rattle.std.proofs.Common.{◌≡◌, ◌⊎◌, ℕ, ◌+◌, ◌≤◌, List, [], ◌∷◌, ◌++◌, length, take, refl, sym, ◌∙◌, subst, arith, inl, inr, length-append, Some, ap, Result, Ok, Err, OnOk, OnErr, IsErr, Contains, true≢false, ◌<◌, ◌^◌}
+use Rattle.std.proofs.Common.{◌≡◌, ◌⊎◌, ℕ, ◌+◌, ◌≤◌, List, [], ◌∷◌, ◌++◌, length, take, refl, sym, ◌∙◌, subst, arith, inl, inr, length-append, Some, ap, Result, Ok, Err, OnOk, OnErr, true≢false}
 use Rattle.std.proofs.lemmas.Bool.{cases_lt}
 use Rattle.std.proofs.lemmas.List.{take_all, take-append-le}
 use Rattle.io_edges.specs.Causes.{HasCause, CountsFaults, FailsAsListed, next_count}
-use Rattle.disk_model.specs.Disk.{written, Torn, Cut, Follows, AddsNone, IsSettled, Elapses}
+use Rattle.disk_model.specs.Disk.{Torn, Cut, Follows, AddsNone, IsSettled, Elapses}
 use Rattle.disk_model.specs.Images.{torn_same, cut_same}
-use Rattle.disk_model.specs.Memory.{DiskState, after_call, after_calls, MayLeaveAfter, IsImage, IsImageOf, MayLeave, LeftSince, moment_of, bytes_of, told_of, with_call, with_failed, with_refused, KeepsCall}
+use Rattle.disk_model.specs.Memory.{DiskState, after_call, after_calls, MayLeaveAfter, IsImage, IsImageOf, MayLeave, LeftSince, moment_of, bytes_of, told_of, KeepsCall}
 use Rattle.disk_model.specs.MemoryLaws.{reads_image}
 use Rattle.disk_model.specs.declared.call.DiskCall.TheVariants.{Looked, Wrote, WriteFailed, CutOff, CutFailed, Synced}
 use Rattle.disk_model.specs.declared.call.DiskCall.{DiskCall}

@@ -1,5 +1,5 @@
 -- How a run of calls goes on over any disk: from a state that leaves only images with P, a call goes on to the same.
-use Rattle.std.proofs.Common.{◌≡◌, ℕ, ◌≤◌, List, inl, inr, ⊎_elim, sym, subst, arith, Option, Some}
+use Rattle.std.proofs.Common.{◌≡◌, ℕ, List, inl, inr, ⊎_elim, sym, subst, arith, Option, Some}
 use Rattle.disk_model.specs.Disk.{Follows, AddsNone, IsSettled, Elapses, LeavesOnly}
 
 -- a settled disk that tells these bytes leaves nothing else

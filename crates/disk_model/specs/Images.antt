@@ -1,5 +1,5 @@
 -- A call that is done, and one that does nothing, are among those that a crash may make of it.
-use Rattle.std.specs.Prelude.{◌≡◌, ℕ, ◌+◌, ◌≤◌, min, List, ◌++◌, length, take, drop, refl}
+use Rattle.std.specs.Prelude.{◌≡◌, ℕ, ◌+◌, ◌≤◌, List, ◌++◌, length, take, drop}
 use Rattle.std.proofs.Common.{sym, ◌∙◌, ap, arith, length-append, length-drop, length-take}
 use Rattle.std.proofs.lemmas.List.{take-append-drop, take_min}
 use Rattle.std.proofs.Math.Seq.{take-add, take-length}
@@ -19,17 +19,18 @@ torn_same at n bytes = record {
   no_shorter = le_refl (length bytes);
 }
 
+-- a write makes nothing shorter
+pub longer_written : (at : ℕ) (piece bytes : List ℕ) → length bytes ≤ length (written at piece bytes)
+longer_written at piece bytes = omega (arith, length-append (take at bytes ++ piece) (drop (at + length piece) bytes), length-append (take at bytes) piece, length-take at bytes, length-drop (at + length piece) bytes)
+
 -- a write of n bytes that put others in their place
 pub torn_middle : (at n : ℕ) (middle bytes : List ℕ) → length middle ≡ n → Torn at n bytes (written at middle bytes)
 torn_middle at n middle bytes long = record {
   middle = middle;
   is = ap (λ (k : ℕ). take at bytes ++ middle ++ drop (at + k) bytes) long;
   no_more = omega (arith, long);
-  no_shorter = longer at middle bytes;
+  no_shorter = longer_written at middle bytes;
 }
-  where
-    longer : (at : ℕ) (piece bytes : List ℕ) → length bytes ≤ length (written at piece bytes)
-    longer at piece bytes = omega (arith, length-append (take at bytes ++ piece) (drop (at + length piece) bytes), length-append (take at bytes) piece, length-take at bytes, length-drop (at + length piece) bytes)
 
 -- a cut that did nothing
 pub cut_same : (end : ℕ) (bytes : List ℕ) → Cut end bytes bytes

@@ -1,5 +1,5 @@
 -- A disk in memory: what a read gives and what a crash may leave, by the calls that it keeps.
-use Rattle.std.specs.Prelude.{◌≡◌, ◌⊎◌, ℕ, ◌+◌, ◌≤◌, List, [], ◌∷◌, ◌++◌, length, take, Option, Some, Result, IsErr, OnOk, OnErr, Contains}
+use Rattle.std.specs.Prelude.{◌≡◌, ◌⊎◌, ℕ, ◌≤◌, List, [], ◌∷◌, ◌++◌, length, take, Option, Some, Result, IsErr, OnOk, OnErr, Contains}
 use Rattle.io_edges.specs.Causes.{next_count}
 use Rattle.disk_model.specs.Disk.{written, Torn, Cut}
 use Rattle.disk_model.specs.declared.call.DiskCall.{DiskCall}

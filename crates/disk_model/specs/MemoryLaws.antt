@@ -1,5 +1,5 @@
 -- The laws of a disk for the one in memory.
-use Rattle.std.specs.Prelude.{◌≡◌, ℕ, ◌≤◌, List, [], ◌∷◌, length, take, refl}
+use Rattle.std.specs.Prelude.{◌≡◌, ℕ, ◌≤◌, List, [], ◌∷◌, length, refl}
 use Rattle.std.proofs.Common.{sym, subst}
 use Rattle.std.proofs.Math.Nat.{le_refl}
 use Rattle.std.proofs.Math.Seq.{take-length}
@@ -18,7 +18,7 @@ read_after before bytes (CutOff end) has = (bytes, has, cut_done end bytes)
 read_after before bytes (CutFailed end) has = (bytes, has, cut_same end bytes)
 read_after before bytes Synced has = refl
 
-read_after_calls : (before : List ℕ → Type 0) (bytes : List ℕ) (calls : List DiskCall) → before bytes → IsImage before bytes calls (after_calls bytes calls)
+pub read_after_calls : (before : List ℕ → Type 0) (bytes : List ℕ) (calls : List DiskCall) → before bytes → IsImage before bytes calls (after_calls bytes calls)
 read_after_calls before bytes [] has = has
 read_after_calls before bytes (call ∷ calls) has = read_after_calls (MayLeaveAfter bytes call before) (after_call bytes call) calls (read_after before bytes call has)
 
