@@ -1,4 +1,4 @@
-use disk_model::{Disk, FileDisk};
+use disk_model::{Disk, FileDisk, write_through};
 use std::fs;
 use std::fs::File;
 use std::test::Fail;
@@ -16,7 +16,7 @@ fn a_file_keeps_what_is_written(rt: HostRuntime) -> Result<(), Fail> {
     disk.write_at(0, b"hello")?;
     disk.write_at(5, b" world")?;
     assert_eq!(rt; disk.length()?, 11);
-    disk.write_at(0, b"J")?;
+    write_through(&mut disk, 0, b"J")?;
     disk.cut(5)?;
     disk.sync()?;
     let mut buf = [0u8; 8];

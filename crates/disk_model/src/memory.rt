@@ -39,7 +39,7 @@ impl Model for MemDisk {
 }
 
 impl MemDisk {
-    ghost use Rattle.disk_model.specs.Memory.{after_call, bytes_of, with_call, with_failed, with_refused, KeepsCall, MayLeave, LeftSince, moment_of, IsImageOf};
+    ghost use Rattle.disk_model.specs.Memory.{after_call, bytes_of, with_call, with_failed, with_refused, KeepsCall, MayLeave, LeftSince, moment_of, told_of, IsImageOf};
     ghost use Rattle.disk_model.specs.Crash.{crashed};
     ghost use Rattle.disk_model.specs.declared.call.DiskCall.TheVariants.{Looked, Wrote, WriteFailed, CutOff, CutFailed, Synced};
 
@@ -51,6 +51,8 @@ impl MemDisk {
         ensures calls { IfOk result (λ disk. disk.calls ≡ []) }
         ensures listed { IfOk result (λ disk. disk.listed ≡ faults.now) }
         ensures begins { IfOk result (λ disk. (disk.faults ≡ 0) × (disk.refused ≡ 0)) }
+        ensures told { IfOk result (λ disk. told_of disk ≡ Some bytes.now) }
+        ensures settled { IfOk result (λ disk. IsSettled told_of MayLeave disk) }
     {
         Ok(MemDisk {
             alloc,
@@ -86,6 +88,7 @@ impl MemDisk {
         ensures calls { IfOk result (λ disk. disk.calls ≡ []) }
         ensures listed { IfOk result (λ disk. disk.listed ≡ []) }
         ensures begins { IfOk result (λ disk. (disk.faults ≡ 0) × (disk.refused ≡ 0)) }
+        ensures settled { IfOk result (λ disk. IsSettled told_of MayLeave disk) }
     {
         let count = first_of(&self.calls, calls);
         let image = crash_image(alloc, &self.first, &self.calls[..count], kind)?;
