@@ -1,4 +1,4 @@
-use disk_model::{Disk, FileDisk, write_through};
+use disk_model::{Disk, FileDisk, cut_through, write_through};
 use std::fs;
 use std::fs::File;
 use std::test::Fail;
@@ -17,8 +17,7 @@ fn a_file_keeps_what_is_written(rt: HostRuntime) -> Result<(), Fail> {
     disk.write_at(5, b" world")?;
     assert_eq!(rt; disk.length()?, 11);
     write_through(&mut disk, 0, b"J")?;
-    disk.cut(5)?;
-    disk.sync()?;
+    cut_through(&mut disk, 5)?;
     let mut buf = [0u8; 8];
     for (at, want) in [(0, "Jello"), (3, "lo"), (5, ""), (100, "")] {
         let count = disk.read(at, &mut buf)?;

@@ -1,4 +1,4 @@
-use disk_model::{Crash, Disk, MemDisk, write_through};
+use disk_model::{Crash, Disk, MemDisk, cut_through, write_through};
 use io_edges::Failed;
 use std::test::Fail;
 
@@ -145,13 +145,16 @@ fn a_failed_sync_does_not_count(rt: HostRuntime) -> Result<(), Fail> {
 }
 
 #[test]
-fn a_write_through_lasts(rt: HostRuntime) -> Result<(), Fail> {
+fn what_was_synced_lasts(rt: HostRuntime) -> Result<(), Fail> {
     let mut disk = MemDisk::new(rt.alloc(), b"abcd", &[])?;
     write_through(&mut disk, 0, b"xy")?;
-    let mut left = disk.after_crash(rt.alloc(), 2, Crash::Lost)?;
+    cut_through(&mut disk, 0)?;
+    let mut written = disk.after_crash(rt.alloc(), 2, Crash::Lost)?;
     let mut buf = [0u8; 3];
-    assert_eq!(rt; left.read(1, &mut buf)?, 3);
+    assert_eq!(rt; written.read(1, &mut buf)?, 3);
     assert_eq!(rt; buf, *b"ycd");
-    assert_eq!(rt; left.length()?, 4);
+    assert_eq!(rt; written.length()?, 4);
+    let empty = disk.after_crash(rt.alloc(), 4, Crash::Lost)?;
+    assert_eq!(rt; empty.bytes().len(), 0);
     Ok(())
 }
