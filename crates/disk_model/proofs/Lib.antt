@@ -1,0 +1,4 @@
+mod Crashed
+mod Filled
+pub mod Kept
+pub mod Moments
