@@ -1,4 +1,6 @@
+pub mod Chains
 pub mod Fields
 pub mod Numbers
 pub mod Reading
 pub mod Spelling
+pub mod Values
