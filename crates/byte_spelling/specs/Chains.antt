@@ -78,3 +78,20 @@ chain_from_ascends kind.Obj es h = chain_keyed kind.Obj es (λ b k. refl) (λ k.
 chain_from_ascends kind.List es h = chain_list None es
 chain_from_ascends kind.Map es h = chain_keyed kind.Map es (λ b k. refl) (λ k. refl) h
 chain_from_ascends kind.Set es h = chain_keyed kind.Set es (λ b k. refl) (λ k. refl) h
+
+-- entries that were read are in order, whatever reads their values
+read_chain : (kind : Kind) (inner : List ℕ → Option (Plain × List ℕ)) (n : ℕ) (before : Option Key) (bytes : List ℕ) (es : List (Key × Plain)) (rest : List ℕ) → entries_at kind inner n before bytes ≡ Some (es, rest) → chain kind before es ≡ true
+unfolding entries_at
+read_chain kind inner zero before bytes es rest h =
+    let made : List (Key × Plain) × List ℕ = ([], bytes) in
+    subst (λ (q : List (Key × Plain) × List ℕ). chain kind before q.0 ≡ true) (some_is made (es, rest) h) refl
+read_chain kind inner (suc n) before bytes es rest h =
+    let a = bind_some (entry_at kind inner bytes) (λ e. cond (follows kind before (e.0).0) (entries_at kind inner n (Some (e.0).0) e.1 >>= λ es. Some (e.0 ∷ es.0, es.1)) None) (es, rest) h in
+    let e = a.0.0 in
+    let p = passed_then (follows kind before e.0) (entries_at kind inner n (Some e.0) a.0.1 >>= λ es. Some (e ∷ es.0, es.1)) (es, rest) a.2 in
+    let b = bind_some (entries_at kind inner n (Some e.0) a.0.1) (λ es. Some (e ∷ es.0, es.1)) (es, rest) p.1 in
+    let made : List (Key × Plain) × List ℕ = (e ∷ b.0.0, b.0.1) in
+    subst (λ (q : List (Key × Plain) × List ℕ). chain kind before q.0 ≡ true) (some_is made (es, rest) b.2) (both_true _ _ p.0 (read_chain kind inner n (Some e.0) a.0.1 b.0.0 b.0.1 b.1))
+
+pub read_ascends : (kind : Kind) (inner : List ℕ → Option (Plain × List ℕ)) (n : ℕ) (bytes : List ℕ) (es : List (Key × Plain)) (rest : List ℕ) → entries_at kind inner n None bytes ≡ Some (es, rest) → ascends_at kind es ≡ true
+read_ascends kind inner n bytes es rest h = ascends_from_chain kind es (read_chain kind inner n None bytes es rest h)

@@ -1,0 +1,7 @@
+//! The bytes of plain values, patch lists and pairs, both ways.
+#![tactic(auto)]
+
+mod fields;
+mod order;
+mod reading;
+mod stop;
