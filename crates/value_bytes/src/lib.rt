@@ -3,5 +3,6 @@
 
 mod fields;
 mod order;
+mod patch_reading;
 mod reading;
 mod stop;
