@@ -124,6 +124,15 @@ pub record SpellsPatches (ps : List Patch) (bytes : List ℕ) : Type 0 where
   pub is : bytes ≡ patches_bytes ps
   pub patches : IsPatches ps
 
+-- what may be written: values that are accepted, and counts that four bytes hold
+pub record CanSpellPatch (p : Patch) : Type 0 where
+  pub path : length p.path < 2 ^ 32
+  pub value : IfSome p.value (λ v. value_limit v ≡ None)
+
+pub record CanSpell (ps : List Patch) : Type 0 where
+  pub count : length ps < 2 ^ 32
+  pub each : AllByRecursion CanSpellPatch ps
+
 -- ---- pairs: the way there, then the way back
 
 abbrev pub pair_bytes : Pair → List ℕ

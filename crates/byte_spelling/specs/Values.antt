@@ -174,7 +174,7 @@ weight_pos (prim k) = key_weight_pos k
 weight_pos (node kind es) = omega arith
 
 -- a container weighs at least as much as it has entries
-count_le_weights : (kind : Kind) (es : Entries) → length (list_of es) ≤ weights kind es
+pub count_le_weights : (kind : Kind) (es : Entries) → length (list_of es) ≤ weights kind es
 count_le_weights kind none = omega arith
 count_le_weights kind (entry k v es) = let w = weight_pos v in let more = count_le_weights kind es in omega arith
 

@@ -1,3 +1,4 @@
 mod Loops
+mod Nodes
 mod Repeats
 mod Texts
