@@ -5,6 +5,7 @@ mod bytes;
 mod fields;
 mod order;
 mod patch_reading;
+mod patch_writing;
 mod reading;
 mod stop;
 mod writing;
