@@ -1,3 +1,4 @@
+mod Fronts
 mod Loops
 mod Nodes
 mod Repeats
