@@ -1,28 +1,17 @@
 -- Keys that ascend from each to the next ascend altogether, and back.
-use Rattle.std.proofs.Common.{◌≡◌, ℕ, zero, suc, ◌+◌, ◌^◌, ◌<◌, ◌≤◌, max, Bool, true, false, cond, ltb, eqb, List, [], ◌∷◌, ◌++◌, length, Option, Some, None, refl, sym, ap, subst, ◌∙◌, append_assoc, arith, Less, Equal, Greater}
-use Rattle.std.specs.Prelude.{IsTrue, ◌&&◌}
-use Rattle.std.specs.Int.{w32, to_be_bytes}
-use Rattle.std.specs.Option.{is_none}
+use Rattle.std.proofs.Common.{◌≡◌, ℕ, zero, suc, Bool, true, cond, List, [], ◌∷◌, Option, Some, None, refl, sym, subst, ◌∙◌, Less, Equal, Greater}
+use Rattle.std.specs.Prelude.{◌&&◌}
 use Rattle.std.specs.FinMap.Entries.{is_sorted, below_all}
 use Rattle.std.specs.declared.cmp.Ordering.{Ordering}
-use Rattle.std.specs.Ordering.{is_eq, is_lt}
-use Rattle.std.proofs.lemmas.Bool.{ltb-false, eqb-true}
+use Rattle.std.specs.Ordering.{is_lt}
 use Rattle.value_model.specs.declared.key.Key.{Key}
-use Rattle.value_model.specs.declared.key.Key.TheVariants.{Null, Bool as BoolKey, Int, Text}
 use Rattle.value_model.specs.declared.words.Kind.{Kind}
 use Rattle.value_model.specs.declared.words.Kind.TheVariants as kind
-use Rattle.value_model.specs.declared.words.Limit.{Limit}
-use Rattle.value_model.specs.Limits.{value_limit, has_long_key, has_reserved_key}
-use Rattle.value_model.specs.Order.{key_cmp, key_total, key_exact}
+use Rattle.value_model.specs.Order.{key_cmp, key_total}
 use Rattle.value_model.specs.Places.{ascends_at}
-use Rattle.value_model.specs.Plain.{Plain, Entries, prim, node, none, entry, entries, list_of, key_weight, weight, weights, depth, deepest}
-use Rattle.value_model.specs.Steps.{list_of_entries, entries-list_of}
-use Rattle.value_model.specs.Tables.{is_eq-same}
-use Rattle.value_model.specs.Well.{fits, all_fit, well, all_well}
-use Rattle.byte_spelling.specs.Numbers.{IsBytes}
-use Rattle.byte_spelling.specs.Spelling.{is_word, all_words, all_words_in, text_bytes, key_bytes, kind_byte, place_bytes, value_bytes, entries_bytes, IsValue}
-use Rattle.byte_spelling.specs.Reading.{◌>>=◌, number_at, text_at, key_at, kind_at, entry_at, follows, entries_at, node_at, prim_at, prim_or_node, value_within, nested_at, value_at}
-use Rattle.byte_spelling.specs.Fields.{IsBytes-rest, bind_some, passed, passed_then, some_is, Takes, Takes-then, Takes-nothing, Takes-byte, wide32, number_takes, number_again, text_takes, text_again, key_takes, key_again, left_true, right_true, both_true}
+use Rattle.value_model.specs.Plain.{Plain}
+use Rattle.byte_spelling.specs.Reading.{◌>>=◌, entry_at, follows, entries_at}
+use Rattle.byte_spelling.specs.Fields.{bind_some, passed_then, some_is, left_true, right_true, both_true}
 
 abbrev pub chain : Kind → Option Key → List (Key × Plain) → Bool
 chain kind before [] = true

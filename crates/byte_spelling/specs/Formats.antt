@@ -1,5 +1,5 @@
 -- What the spellings have in common: reading and writing agree, so no spelling begins another.
-use Rattle.std.proofs.Common.{◌≡◌, ℕ, List, [], ◌++◌, Option, Some, refl, sym, ap, ◌∙◌}
+use Rattle.std.proofs.Common.{◌≡◌, ℕ, List, [], ◌++◌, Option, Some, sym, ap, ◌∙◌}
 use Rattle.std.proofs.lemmas.List.{append-nil}
 use Rattle.value_model.specs.Plain.{Plain}
 use Rattle.values.specs.declared.patch.Patch.{Patch}

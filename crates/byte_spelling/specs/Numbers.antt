@@ -1,6 +1,6 @@
 -- The bytes of a number that was read are those bytes, at every width, in the words of `byteorder`.
-use Rattle.std.proofs.Common.{◌≡◌, ℕ, zero, suc, ◌+◌, ◌*◌, ◌/◌, ◌%◌, ◌^◌, ◌<◌, ◌≤◌, List, [], ◌∷◌, length, get_or, take, slice_index, refl, sym, ap, ◌∙◌, zero-add, arith}
-use Rattle.std.proofs.Math.Nat.{add-mul, div-one, mul-add-div_right, mul-add-mod_self_right, mul_assoc, pow-succ', one-le-pow, mod-eq_of_lt}
+use Rattle.std.proofs.Common.{◌≡◌, ℕ, zero, suc, ◌+◌, ◌*◌, ◌/◌, ◌%◌, ◌^◌, ◌<◌, ◌≤◌, List, [], ◌∷◌, length, get_or, take, refl, sym, ap, ◌∙◌, zero-add, arith}
+use Rattle.std.proofs.Math.Nat.{div-one, mul-add-div_right, mul-add-mod_self_right, mul_assoc, pow-succ', one-le-pow, mod-eq_of_lt}
 use Rattle.std.proofs.lemmas.Nat.{div-mul-add, pow-add}
 use Rattle.std.specs.Int.{byte_at, bytes_high_first}
 use Rattle.byteorder.specs.Endian.{big_from, big_number, big_bytes}

@@ -1,19 +1,18 @@
 -- A value that is read is spelled by the bytes that it was read from, and what a value spells is read again.
-use Rattle.std.proofs.Common.{◌≡◌, ℕ, zero, suc, ◌+◌, ◌^◌, ◌<◌, ◌≤◌, max, Bool, true, false, cond, ltb, eqb, List, [], ◌∷◌, ◌++◌, length, Option, Some, None, refl, sym, ap, subst, ◌∙◌, append_assoc, arith, Less, Equal, Greater, ◌⊎◌, inl, inr}
+use Rattle.std.proofs.Common.{◌≡◌, ℕ, zero, suc, ◌^◌, ◌<◌, ◌≤◌, Bool, true, false, cond, ltb, eqb, List, [], ◌∷◌, ◌++◌, length, Option, Some, None, refl, sym, ap, subst, ◌∙◌, append_assoc, arith, Less, Equal, Greater, ◌⊎◌, inl, inr}
 use Rattle.std.specs.Prelude.{IsTrue, ◌&&◌}
 use Rattle.std.specs.Int.{w32, to_be_bytes}
 use Rattle.std.specs.Option.{is_none}
-use Rattle.std.specs.FinMap.Entries.{is_sorted, below_all}
 use Rattle.std.specs.declared.cmp.Ordering.{Ordering}
-use Rattle.std.specs.Ordering.{is_eq, is_lt}
+use Rattle.std.specs.Ordering.{is_eq}
 use Rattle.std.proofs.lemmas.Bool.{ltb-false, eqb-true}
 use Rattle.value_model.specs.declared.key.Key.{Key}
 use Rattle.value_model.specs.declared.key.Key.TheVariants.{Null, Bool as BoolKey, Int, Text}
 use Rattle.value_model.specs.declared.words.Kind.{Kind}
 use Rattle.value_model.specs.declared.words.Kind.TheVariants as kind
 use Rattle.value_model.specs.declared.words.Limit.{Limit}
-use Rattle.value_model.specs.Limits.{value_limit, has_long_key, has_reserved_key}
-use Rattle.value_model.specs.Order.{key_cmp, key_total, key_exact}
+use Rattle.value_model.specs.Limits.{value_limit}
+use Rattle.value_model.specs.Order.{key_exact}
 use Rattle.value_model.specs.Places.{ascends_at}
 use Rattle.value_model.specs.Plain.{Plain, Entries, prim, node, none, entry, entries, list_of, key_weight, weight, weights, depth, deepest}
 use Rattle.value_model.specs.Steps.{list_of_entries, entries-list_of}
@@ -215,12 +214,14 @@ node_takes kind inner n exact bytes v rest fits h =
     let whole : Takes bytes (to_be_bytes w32 (length (list_of (entries es))) ++ entries_bytes kind (entries es)) b.0.1 = subst (λ (k : ℕ). Takes bytes (to_be_bytes w32 k ++ entries_bytes kind (entries es)) b.0.1) (sym listed) both in
     let made : Plain × List ℕ = (node kind (entries es), b.0.1) in
     let ascends : ascends_at kind (list_of (entries es)) ≡ true = rw (list_of_entries es) (ascends_from_chain kind es more.2.chained) in
-    subst (λ (q : Plain × List ℕ). Takes (kind_byte kind ∷ bytes) (value_bytes q.0) q.1 × IsNested (suc n) q.0) (some_is made (v, rest) b.2)
-    (Takes-byte (kind_byte kind) bytes _ b.0.1 whole, record {
-      in_order = both_true _ _ (both_true _ _ ascends more.2.fit) more.2.in_order;
-      words = more.2.words;
-      levels = omega (arith, more.2.levels);
-    })
+    subst (λ (q : Plain × List ℕ). Takes (kind_byte kind ∷ bytes) (value_bytes q.0) q.1 × IsNested (suc n) q.0) (some_is made (v, rest) b.2) (
+      Takes-byte (kind_byte kind) bytes _ b.0.1 whole,
+      record {
+        in_order = both_true _ _ (both_true _ _ ascends more.2.fit) more.2.in_order;
+        words = more.2.words;
+        levels = omega (arith, more.2.levels);
+      },
+    )
 
 node_again : (kind : Kind) (inner : List ℕ → Option (Plain × List ℕ)) (n : ℕ) → IsExact inner n → (es : Entries) (rest : List ℕ) → IsNested (suc n) (node kind es) → weight (node kind es) < 2 ^ 32
     → node_at kind inner ((to_be_bytes w32 (length (list_of es)) ++ entries_bytes kind es) ++ rest) ≡ Some (node kind es, rest)

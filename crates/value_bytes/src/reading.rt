@@ -75,7 +75,12 @@ fn node_of(alloc: Global, kind: Kind, inner: u8, bytes: &[u8]) -> Result<(Val, &
 }
 
 #[cycle(reading)]
-fn fields_of(alloc: Global, inner: u8, count: u32, bytes: &[u8]) -> Result<(Vec<Field>, &[u8]), Stop>
+fn fields_of(
+    alloc: Global,
+    inner: u8,
+    count: u32,
+    bytes: &[u8],
+) -> Result<(Vec<Field>, &[u8]), Stop>
     ensures { Gives (λ x. (map of_field x.0.items, x.1.now)) result (entries_at kind.Obj (nested_at inner) count None bytes.now) }
 {
     let mut fields = Vec::new(alloc);
@@ -116,7 +121,12 @@ fn items_of(alloc: Global, inner: u8, count: u32, bytes: &[u8]) -> Result<(Vec<V
 }
 
 #[cycle(reading)]
-fn entries_of(alloc: Global, inner: u8, count: u32, bytes: &[u8]) -> Result<(Vec<Entry>, &[u8]), Stop>
+fn entries_of(
+    alloc: Global,
+    inner: u8,
+    count: u32,
+    bytes: &[u8],
+) -> Result<(Vec<Entry>, &[u8]), Stop>
     ensures { Gives (λ x. (map of_entry x.0.items, x.1.now)) result (entries_at kind.Map (nested_at inner) count None bytes.now) }
 {
     let mut entries = Vec::new(alloc);

@@ -1,4 +1,4 @@
-use Rattle.std.proofs.Common.{◌≡◌, ◌-◌, ℕ, List, length, Some, refl, sym, ap, subst, arith}
+use Rattle.std.proofs.Common.{List, Some, arith}
 use Rattle.values.specs.declared.patch.Patch.{Patch}
 use Rattle.byte_spelling.specs.Formats.{patches_format}
 use Rattle.byte_spelling.specs.Numbers.{IsBytes}

@@ -1,4 +1,4 @@
-use Rattle.std.proofs.Common.{◌≡◌, ◌-◌, ℕ, List, length, Some, refl, sym, ap, subst, arith}
+use Rattle.std.proofs.Common.{Some, arith}
 use Rattle.value_model.specs.Plain.{Plain}
 use Rattle.byte_spelling.specs.Formats.{value_format}
 use Rattle.byte_spelling.specs.Numbers.{IsBytes}
