@@ -4,6 +4,7 @@ use Rattle.std.specs.Prelude.{IsTrue, IfSome}
 use Rattle.std.specs.Int.{w32, to_be_bytes}
 use Rattle.std.specs.List.{flat_map, AllByRecursion}
 use Rattle.std.proofs.lemmas.List.Concat.{flat_map-cons}
+use Rattle.std.proofs.lemmas.Option.{IfSome_then}
 use Rattle.value_model.specs.declared.key.Key.{Key}
 use Rattle.value_model.specs.declared.words.Op.{Op}
 use Rattle.value_model.specs.declared.words.Op.TheVariants.{Add, Replace, Remove}
@@ -11,7 +12,7 @@ use Rattle.value_model.specs.Plain.{Plain}
 use Rattle.values.specs.declared.patch.Patch.{Patch}
 use Rattle.values.specs.declared.patch.Pair.{Pair}
 use Rattle.byte_spelling.specs.Numbers.{IsBytes}
-use Rattle.byte_spelling.specs.Spelling.{is_word, key_bytes, value_bytes, IsValue, op_byte, optional_bytes, path_bytes, patch_bytes, patches_bytes, pair_bytes, IsPath, IsPatch, IsPatches, IsPair}
+use Rattle.byte_spelling.specs.Spelling.{is_word, key_bytes, value_bytes, IsValue, op_byte, optional_bytes, path_bytes, patch_bytes, patches_bytes, pair_bytes, IsPath, IsPatch, IsPatches, IsPair, CanSpellPatch, CanSpell}
 use Rattle.byte_spelling.specs.Reading.{◌>>=◌, number_at, key_at, value_at, keys_at, path_at, op_at, optional_at, patch_at, patch_list_at, patches_at, pair_at}
 use Rattle.byte_spelling.specs.Fields.{IsBytes-rest, bind_some, some_is, Takes, Takes-then, Takes-nothing, Takes-byte, wide32, number_takes, number_again, key_takes, key_again}
 use Rattle.byte_spelling.specs.Values.{value_takes, value_again}
@@ -149,6 +150,14 @@ unfolding patches_at
 patches_again ps rest ok =
     let grouped = append_assoc (to_be_bytes w32 (length ps)) (flat_map patch_bytes ps) rest in
     ap patches_at grouped ∙ rw (number_again w32 (2 ^ 32) wide32 (length ps) (flat_map patch_bytes ps ++ rest) ok.count, list_again ps rest ok.each) refl
+
+-- what has a spelling may be written
+can_spell_each : (ps : List Patch) → AllByRecursion IsPatch ps → AllByRecursion CanSpellPatch ps
+can_spell_each [] ok = tt
+can_spell_each (p ∷ ps) ok = (record { path = ok.0.path.count; value = IfSome_then p.value ok.0.value (λ v is. is.accepted) }, can_spell_each ps ok.1)
+
+pub can_spell : (ps : List Patch) → IsPatches ps → CanSpell ps
+can_spell ps ok = record { count = ok.count; each = can_spell_each ps ok.each }
 
 -- ---- pairs
 

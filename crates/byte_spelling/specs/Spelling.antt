@@ -30,6 +30,7 @@ key_bytes (BoolKey true) = 2 ∷ []
 key_bytes (Int n) = 3 ∷ to_be_bytes w64 (cast_unsigned w64 n)
 key_bytes (Text s) = 4 ∷ text_bytes s
 
+-- the byte in front of a container
 abbrev pub kind_byte : Kind → ℕ
 kind_byte kind.Obj = 5
 kind_byte kind.List = 6
@@ -53,14 +54,15 @@ abbrev mutual
   entries_bytes kind none = []
   entries_bytes kind (entry k v es) = place_bytes kind k ++ (value_bytes v ++ entries_bytes kind es)
 
--- an integer that a double tells apart from its neighbours
+-- magnitude at most 2^53 - 1 (ECMA-262, Number.isSafeInteger)
 abbrev pub is_safe : ℤ → Bool
 is_safe n = int_le (negsuc 9007199254740990) n && int_le n (pos 9007199254740991)
 
--- UTF-8 of at most 2^20 bytes
+-- UTF-8 (RFC 3629) of at most 2^20 bytes
 abbrev pub is_text : List ℕ → Bool
 is_text s = nat_le (length s) (2 ^ 20) && is_utf8 s
 
+-- a primitive within its limit
 abbrev pub is_word : Key → Bool
 is_word (Int n) = is_safe n
 is_word (Text s) = is_text s
@@ -89,6 +91,7 @@ pub record Spells (v : Plain) (bytes : List ℕ) : Type 0 where
 
 -- ---- patches
 
+-- the byte of an operation of Immer 10
 abbrev pub op_byte : Op → ℕ
 op_byte Add = 1
 op_byte Replace = 2
@@ -99,15 +102,19 @@ abbrev pub optional_bytes : Option Plain → List ℕ
 optional_bytes None = 0 ∷ []
 optional_bytes (Some v) = 1 ∷ value_bytes v
 
+-- the count of the steps, and each as a primitive
 abbrev pub path_bytes : List Key → List ℕ
 path_bytes path = to_be_bytes w32 (length path) ++ flat_map key_bytes path
 
+-- the operation, the path, and the value where there is one
 abbrev pub patch_bytes : Patch → List ℕ
 patch_bytes p = op_byte p.op ∷ (path_bytes p.path ++ optional_bytes p.value)
 
+-- the count of the patches, and the patches
 abbrev pub patches_bytes : List Patch → List ℕ
 patches_bytes ps = to_be_bytes w32 (length ps) ++ flat_map patch_bytes ps
 
+-- what has a spelling, as a path, a patch and a patch list
 pub record IsPath (path : List Key) : Type 0 where
   pub count : length path < 2 ^ 32
   pub words : AllByRecursion (λ k. IsTrue (is_word k)) path
@@ -120,6 +127,7 @@ pub record IsPatches (ps : List Patch) : Type 0 where
   pub count : length ps < 2 ^ 32
   pub each : AllByRecursion IsPatch ps
 
+-- these bytes, no more and no fewer, are the spelling of ps
 pub record SpellsPatches (ps : List Patch) (bytes : List ℕ) : Type 0 where
   pub is : bytes ≡ patches_bytes ps
   pub patches : IsPatches ps
@@ -138,6 +146,7 @@ pub record CanSpell (ps : List Patch) : Type 0 where
 abbrev pub pair_bytes : Pair → List ℕ
 pair_bytes p = patches_bytes p.forward ++ patches_bytes p.inverse
 
+-- what has a spelling, as a pair
 pub record IsPair (p : Pair) : Type 0 where
   pub forward : IsPatches p.forward
   pub inverse : IsPatches p.inverse

@@ -1,5 +1,6 @@
-//! The definition of the byte spelling of plain values and of patch lists; it stands in `specs/`.
+//! The byte spelling of plain values and of patch lists.
 //!
-//! `Spelling` says what the one spelling of each value, patch list and pair is, and which have one. `Reading` reads a
-//! spelling from the front of bytes, as a function on lists; `Laws` says that the two agree.
+//! The definitions stand in `specs/`: `Spelling` (the one spelling of each value, patch list and pair, and which of them
+//! have one), `Reading` (what stands at the front of bytes, as a function on lists), `Formats` (the two agree, and no
+//! spelling begins another), `Numbers` (the bytes of a number that was read are those bytes).
 #![tactic(auto)]
