@@ -38,7 +38,8 @@ impl Model for Packed {
 }
 
 impl Packed {
-    /// The pair as bytes. The values of both lists are accepted, and each list and each path has fewer than 2^32 elements.
+    /// The pair as bytes. `check_value` accepts each value of both lists, and each list and each path has fewer than 2^32
+    /// elements. `AllocError` comes only where memory runs out.
     pub fn of(alloc: Global, pair: &Pair) -> Result<Packed, AllocError>
         requires forward { CanSpell pair.now.forward }
         requires inverse { CanSpell pair.now.inverse }
@@ -51,7 +52,7 @@ impl Packed {
         })
     }
 
-    /// The pair that was packed.
+    /// The pair that was packed. `AllocError` comes only where memory runs out.
     pub fn pair(&self, alloc: Global) -> Result<Pair, AllocError>
         ensures { IfOk result (λ p. p ≡ self.now) }
     {
@@ -62,7 +63,7 @@ impl Packed {
         }
     }
 
-    /// The same pair over the same bytes.
+    /// The same pair over the same bytes, which aren't copied. `AllocError` comes only where memory runs out.
     pub fn share(&self) -> Result<Packed, AllocError>
         ensures { IfOk result (λ p. p ≡ self.now) }
     {

@@ -7,7 +7,9 @@ use crate::patch_writing::{put_accepted, put_patch_list};
 use std::alloc::{AllocError, Global};
 use values::{Patches, Val};
 
-/// Appends the one spelling of a value that is accepted. After want of memory `out` is as before.
+/// Appends the one spelling of a value: its kind, then big-endian numbers, UTF-8 and what it holds, keys ascending.
+///
+/// The value is one that `check_value` accepts. `AllocError` comes only where memory runs out; then `out` is as before.
 pub fn put_value(alloc: Global, v: &Val, out: &mut Bytes) -> Result<(), AllocError>
     requires { value_limit v.now ≡ None }
     ensures ok { OnOk result (out.new ≡ out.old ++ value_bytes v.now) }
@@ -20,8 +22,10 @@ pub fn put_value(alloc: Global, v: &Val, out: &mut Bytes) -> Result<(), AllocErr
     out.append(&spelling)
 }
 
-/// Appends the one spelling of a patch list: its values are accepted, and the list and each path have fewer than 2^32
-/// elements. After want of memory `out` is as before.
+/// Appends the one spelling of a patch list: the count of its patches, then the operation, the path and the value of each.
+///
+/// `check_value` accepts each of its values, and the list and each path have fewer than 2^32 elements. `AllocError` comes
+/// only where memory runs out; then `out` is as before.
 pub fn put_patches(alloc: Global, p: &Patches, out: &mut Bytes) -> Result<(), AllocError>
     requires { CanSpell p.now }
     ensures ok { OnOk result (out.new ≡ out.old ++ patches_bytes p.now) }

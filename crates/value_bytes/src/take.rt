@@ -8,8 +8,11 @@ use crate::stop::Stop;
 use std::alloc::{AllocError, Global};
 use values::{Patches, Val};
 
-/// The value that the first bytes spell, and how many bytes spell it; None exactly where no prefix is a spelling. What
-/// stands behind the spelling isn't looked at.
+/// The value that the first bytes spell, and how many bytes spell it; None exactly where no prefix is a spelling.
+///
+/// Keys that don't ascend strictly, texts that are no UTF-8 or have more than 2^20 bytes, integers outside ±(2^53 - 1) and
+/// values that `check_value` refuses have no spelling. What stands behind the spelling isn't looked at. `AllocError` comes
+/// only where memory runs out.
 pub fn take_value(alloc: Global, bytes: &[u8]) -> Result<Option<(Val, usize)>, AllocError>
     // What is taken is spelled by the prefix of that length.
     ensures found { IfOk result (λ r. IfSome r (λ x. (x.1 ≤ length bytes.now) × Spells x.0 (take x.1 bytes.now))) }
@@ -26,7 +29,9 @@ pub fn take_value(alloc: Global, bytes: &[u8]) -> Result<Option<(Val, usize)>, A
 }
 
 /// The patch list that the first bytes spell, and how many bytes spell it; None exactly where no prefix is a spelling.
-/// What stands behind the spelling isn't looked at.
+///
+/// The values of its patches are as `take_value` takes them, the steps of a path any primitives. What stands behind the
+/// spelling isn't looked at. `AllocError` comes only where memory runs out.
 pub fn take_patches(alloc: Global, bytes: &[u8]) -> Result<Option<(Patches, usize)>, AllocError>
     // What is taken is spelled by the prefix of that length.
     ensures found { IfOk result (λ r. IfSome r (λ x. (x.1 ≤ length bytes.now) × SpellsPatches x.0 (take x.1 bytes.now))) }
