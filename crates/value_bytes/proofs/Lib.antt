@@ -1,0 +1,6 @@
+mod Fronts
+mod Loops
+mod Nodes
+mod Packs
+mod Repeats
+mod Texts
