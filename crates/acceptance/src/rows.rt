@@ -6,7 +6,8 @@ use std::test::Fail;
 
 const LINE: &str = r#"{"do":"apply","patches":[{"op":"add","path":["n"],"value":1}]}"#;
 
-const REPLY: &str = r#"{"inverse":[{"op":"remove","path":["n"]}],"ok":"apply","patches":[{"op":"add","path":["n"],"value":1}],"root":2,"seq":1}"#;
+const REPLY: &str =
+    r#"{"inverse":[{"op":"remove","path":["n"]}],"ok":"apply","patches":[{"op":"add","path":["n"],"value":1}],"root":2,"seq":1}"#;
 
 #[test]
 fn the_worked_examples(rt: HostRuntime) -> Result<(), Fail> {

@@ -73,9 +73,9 @@ text_key k h =
       text = left_true (is_text_key k) (not (is_reserved_key k)) first;
     }
   where
-  not_true : (b : Bool) → IsTrue (not b) → b ≡ false
-  not_true true h = absurd (cc)
-  not_true false h = refl
+    not_true : (b : Bool) → IsTrue (not b) → b ≡ false
+    not_true true h = absurd (cc)
+    not_true false h = refl
 
 set_field : (o : Op) (k : Key) (w : Plain) (t : Table) → o ≢ op.Remove → IsTrue (is_field_key k) → edited kind.Obj o k (Some w) t ≡ Ok (put key_cmp k w t)
 set_field op.Remove k w t n h = absurd (n refl)
@@ -139,10 +139,10 @@ either a b c e (inr p) = p
 same_is : (v w : Plain) → same v w ≡ true → IsTrue (is_integer v) → IsTrue (is_integer w) → v ≡ w
 same_is (prim j) (prim k) h p q = ap prim (key_exact j k (tied (key_cmp j k) h))
   where
-  tied : (o : Ordering) → is_eq o ≡ true → o ≡ Equal
-  tied Less h = absurd (cc)
-  tied Equal h = refl
-  tied Greater h = absurd (cc)
+    tied : (o : Ordering) → is_eq o ≡ true → o ≡ Equal
+    tied Less h = absurd (cc)
+    tied Equal h = refl
+    tied Greater h = absurd (cc)
 same_is (node a es) w h p q = absurd (cc)
 same_is (prim j) (node b fs) h p q = absurd (cc)
 
@@ -162,10 +162,10 @@ moved k i rest old new t (Some v) (Some w) p q f g s h = replaced k i rest v w t
 split_key : (j k : Key) → (j ≡ k) ⊎ (j ≢ k)
 split_key j k = by (key_cmp j k) refl
   where
-  by : (o : Ordering) → key_cmp j k ≡ o → (j ≡ k) ⊎ (j ≢ k)
-  by Equal p = inl (key_exact j k p)
-  by Less p = inr (λ e. let q : key_cmp k k ≡ Less = subst (λ (x : Key). key_cmp x k ≡ Less) e p in let r = tied_itself key_total k in cc)
-  by Greater p = inr (λ e. let q : key_cmp k k ≡ Greater = subst (λ (x : Key). key_cmp x k ≡ Greater) e p in let r = tied_itself key_total k in cc)
+    by : (o : Ordering) → key_cmp j k ≡ o → (j ≡ k) ⊎ (j ≢ k)
+    by Equal p = inl (key_exact j k p)
+    by Less p = inr (λ e. let q : key_cmp k k ≡ Less = subst (λ (x : Key). key_cmp x k ≡ Less) e p in let r = tied_itself key_total k in cc)
+    by Greater p = inr (λ e. let q : key_cmp k k ≡ Greater = subst (λ (x : Key). key_cmp x k ≡ Greater) e p in let r = tied_itself key_total k in cc)
 
 abbrev Member : Key → List Key → Type 0
 Member j [] = ⊥
@@ -215,16 +215,16 @@ nowhere j es (f ∷ fs) h =
     let rest = nowhere j (put key_cmp f.0 f.1 es) fs h in
     by (eq_by_cmp key_cmp j f.0) refl (sym (find-put key_cmp key_total j f.0 f.1 es) ∙ rest.0) rest.1
   where
-  by : (b : Bool) → eq_by_cmp key_cmp j f.0 ≡ b → cond (eq_by_cmp key_cmp j f.0) (Some f.1) (find key_cmp j es) ≡ None → find key_cmp j fs ≡ None → (find key_cmp j es ≡ None) × (find key_cmp j (f ∷ fs) ≡ None)
-  by true e p q = let r : Some f.1 ≡ None = rw e at p in absurd (cc)
-  by false e p q = (rw e at p, rw e q)
+    by : (b : Bool) → eq_by_cmp key_cmp j f.0 ≡ b → cond (eq_by_cmp key_cmp j f.0) (Some f.1) (find key_cmp j es) ≡ None → find key_cmp j fs ≡ None → (find key_cmp j es ≡ None) × (find key_cmp j (f ∷ fs) ≡ None)
+    by true e p q = let r : Some f.1 ≡ None = rw e at p in absurd (cc)
+    by false e p q = (rw e at p, rw e q)
 
 member : (j : Key) (us : Table) (v : Plain) → find key_cmp j us ≡ Some v → Member j (keys us)
 member j [] v h = absurd (cc)
 member j (u ∷ us) v h = elim (split_key j u.0) [ inl e ↦ inl e | inr n ↦ inr (member j us v (sym (skipped n) ∙ h)) ]
   where
-  skipped : j ≢ u.0 → find key_cmp j (u ∷ us) ≡ find key_cmp j us
-  skipped n = rw (is_eq-other j u.0 n) refl
+    skipped : j ≢ u.0 → find key_cmp j (u ∷ us) ≡ find key_cmp j us
+    skipped n = rw (is_eq-other j u.0 n) refl
 
 covered : (j : Key) (old new : Table) (o : Option Plain) → find key_cmp j (union old new) ≡ o → Member j (keys (union old new)) ⊎ (find key_cmp j old ≡ find key_cmp j new)
 covered j old new None h = let none = nowhere j old new h in inr (none.0 ∙ sym none.1)
@@ -242,9 +242,9 @@ no_root_change k None (Some w) ps = refl
 no_root_change k (Some v) None ps = refl
 no_root_change k (Some v) (Some w) ps = by (same v w)
   where
-  by : (b : Bool) → has_root_replace (cond b [] (patch op.Replace k (Some w) ∷ []) ++ ps) ≡ has_root_replace ps
-  by true = refl
-  by false = refl
+    by : (b : Bool) → has_root_replace (cond b [] (patch op.Replace k (Some w) ∷ []) ++ ps) ≡ has_root_replace ps
+    by true = refl
+    by false = refl
 
 no_root_changes : (ks : List Key) (old new : Table) → has_root_replace (changes ks old new) ≡ false
 no_root_changes [] old new = refl
@@ -254,10 +254,10 @@ in_order : (ps : List Patch) (x : Plain) → has_root_replace ps ≡ false → a
 in_order [] x h = refl
 in_order (p ∷ ps) x h = by (is_root_replace p) (has_root_replace ps) refl refl h
   where
-  by : (a b : Bool) → is_root_replace p ≡ a → has_root_replace ps ≡ b → (is_root_replace p || has_root_replace ps) ≡ false → applied (p ∷ ps) x ≡ applied_from 0 (p ∷ ps) x
-  by true b e f h = let q : true ≡ false = rw e at h in absurd (cc)
-  by false true e f h = let q : true ≡ false = rw (e, f) at h in absurd (cc)
-  by false false e f h = rw (f, e) refl
+    by : (a b : Bool) → is_root_replace p ≡ a → has_root_replace ps ≡ b → (is_root_replace p || has_root_replace ps) ≡ false → applied (p ∷ ps) x ≡ applied_from 0 (p ∷ ps) x
+    by true b e f h = let q : true ≡ false = rw e at h in absurd (cc)
+    by false true e f h = let q : true ≡ false = rw (e, f) at h in absurd (cc)
+    by false false e f h = rw (f, e) refl
 
 -- the differences of two sound tables carry the one to the other
 pub carries_table : (old new : Table) → Sorted old → Sorted new → Flat old → Flat new → applied (differences old new) (state old) ≡ Ok (state new)

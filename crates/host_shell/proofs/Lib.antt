@@ -1,5 +1,6 @@
 pub mod AnswerLaws
 pub mod AtLaws
+pub mod CarriedLaws
 pub mod FeedLaws
 pub mod LfLaws
 pub mod LineLaws

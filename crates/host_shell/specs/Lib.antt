@@ -1,4 +1,5 @@
 pub mod At
+pub mod Carried
 pub mod Ends
 pub mod Line
 pub mod Status

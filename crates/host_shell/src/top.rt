@@ -1,8 +1,10 @@
 //! The top call.
-ghost use Rattle.std.specs.Prelude.{◌≡◌, ◌≢◌, ◌↔◌};
+ghost use Rattle.std.specs.Prelude.{◌≡◌, ◌≢◌, ◌↔◌, ℕ, List};
 ghost use Rattle.io_edges.specs.Causes.{Rose};
 ghost use Rattle.host_machine.specs.Machine.{first_machine};
 ghost use Rattle.stream_run.specs.Endings.{Ran};
+ghost use Rattle.stream_run.specs.Lines.{lines};
+ghost use Rattle.host_shell.specs.Carried.{AllCarry};
 ghost use Rattle.host_shell.specs.Ends.{Ends, IsDoneOrMemory, IsWithin};
 ghost use Rattle.host_shell.specs.Words.{wanted_of};
 
@@ -28,6 +30,7 @@ pub fn serve<C: Source, O: Sink>(
     ensures untouched { result ≡ Status.Usage → (commands.new ≡ commands.old) × (out.new ≡ out.old) }
     ensures read { result ≡ Status.ReadFault → Rose (C.faults commands.old) (C.faults commands.new) }
     ensures write { result ≡ Status.WriteFault → Rose (O.faults out.old) (O.faults out.new) }
+    ensures patches { (stream : List ℕ) → AllCarry first_machine (lines stream) }
     ensures complete { wanted_of words.now ≡ Form.Scratch → IsWithin (C.left commands.old) → (¬ Rose (C.faults commands.old) (C.faults commands.new)) → (¬ Rose (O.faults out.old) (O.faults out.new)) → IsDoneOrMemory result }
 {
     match wanted(alloc, words) {
