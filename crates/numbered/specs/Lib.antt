@@ -1,0 +1,5 @@
+pub mod Code
+pub mod Examples
+pub mod Loading
+pub mod Store
+pub mod Tree
