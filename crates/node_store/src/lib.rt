@@ -1,0 +1,13 @@
+//! Frozen nodes under numbers from 1, children before parents: the states that a host keeps, each node once.
+//!
+//! A contract sees a store as the list of the numbered states that its numbers stand for; `kind_of`, `keys_of` and
+//! `cells_of` give the node of a state, so that the list of states is the list of nodes. How the tables of the nodes are
+//! held shows in no contract.
+#![tactic(auto)]
+
+mod node;
+mod store;
+
+pub use node::{Cell, Cells, Keys, Node, NodeId};
+pub use store::Store;
+pub use value_model::Kind;

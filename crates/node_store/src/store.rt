@@ -1,0 +1,3 @@
+pub struct Store {
+    n: u64,
+}
