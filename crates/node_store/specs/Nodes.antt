@@ -1,5 +1,5 @@
 -- Nodes: containers whose children are named by number.
-use Rattle.std.specs.Prelude.{Bool, true, false, ◌&&◌, List, [], ◌∷◌, map, ⊤}
+use Rattle.std.specs.Prelude.{ℕ, ◌+◌, Bool, true, false, ◌&&◌, List, [], ◌∷◌, map, length, ⊤}
 use Rattle.std.specs.List.{zip}
 use Rattle.std.specs.Ordering.{is_eq}
 use Rattle.std.specs.FinMap.Entries.{is_sorted}
@@ -8,7 +8,7 @@ use Rattle.value_model.specs.declared.key.Key.TheVariants as key
 use Rattle.value_model.specs.declared.words.Kind.{Kind}
 use Rattle.value_model.specs.declared.words.Kind.TheVariants as kind
 use Rattle.value_model.specs.Order.{key_cmp}
-use Rattle.numbered.specs.Tree.{Tree, Branches, prim, node, none, branch}
+use Rattle.numbered.specs.Tree.{Tree, Branches, prim, node, none, branch, branches_of}
 use Rattle.numbered.specs.Store.{IsNumber, tree_at}
 use Rattle.node_store.specs.declared.node.Cell.{Cell}
 use Rattle.node_store.specs.declared.node.Cell.TheVariants as cell
@@ -69,3 +69,36 @@ cell_tree ts (cell.Node id) = tree_at ts id
 abbrev pub branches : List Tree → List (Key × Cell) → Branches
 branches ts [] = none
 branches ts (r ∷ rs) = branch r.0 (cell_tree ts r.1) (branches ts rs)
+
+-- the state that a table stands for, if it is added to these
+abbrev pub built : List Tree → Kind → List Key → List Cell → Tree
+built ts kind ks cs = node (length ts + 1) kind (branches ts (rows kind ks cs))
+
+-- ---- the node of a state
+abbrev pub kind_of : Tree → Kind
+kind_of (prim k) = kind.Obj
+kind_of (node id kind es) = kind
+
+abbrev pub keys_in : Branches → List Key
+keys_in none = []
+keys_in (branch k v es) = k ∷ keys_in es
+
+abbrev pub keys_at : Kind → Branches → List Key
+keys_at kind.List es = []
+keys_at _ es = keys_in es
+
+-- a list has no keys
+abbrev pub keys_of : Tree → List Key
+keys_of (prim k) = []
+keys_of (node id kind es) = keys_at kind es
+
+abbrev pub cell_of : Tree → Cell
+cell_of (prim k) = cell.Prim k
+cell_of (node id kind es) = cell.Node id
+
+abbrev pub cells_in : Branches → List Cell
+cells_in none = []
+cells_in (branch k v es) = cell_of v ∷ cells_in es
+
+abbrev pub cells_of : Tree → List Cell
+cells_of t = cells_in (branches_of t)

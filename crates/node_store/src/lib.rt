@@ -5,6 +5,7 @@
 //! held shows in no contract.
 #![tactic(auto)]
 
+mod held;
 mod node;
 mod store;
 

@@ -1,3 +1,75 @@
+use crate::held::Held;
+use crate::node::NodeId;
+use std::alloc::Global;
+use std::marker::Model;
+
+/// Frozen nodes under numbers from 1, children before parents.
+///
+/// A contract sees it as the list of the numbered states that its numbers stand for.
+#[derive(Drop)]
 pub struct Store {
-    n: u64,
+    nodes: Vec<Held>,
+    used: u64,
+}
+
+impl Model for Store {
+    ghost use Rattle.std.specs.Prelude.{List, [], length, ◌≡◌, ◌≤◌, ◌^◌};
+    ghost use Rattle.numbered.specs.Tree.{Tree};
+    ghost use Rattle.numbered.specs.Code.{coded_trees};
+    ghost use Rattle.numbered.specs.Store.{used as used_by};
+    ghost use Rattle.node_store.specs.Kept.{news, Sound};
+
+    ghost Value = { List Tree };
+
+    ghost coded = { coded_trees };
+
+    ghost view = { λ s. news [] s.nodes.items };
+
+    ghost invariant = { λ s. record {
+        sound : Sound [] s.nodes.items;
+        used : s.used ≡ used_by (news [] s.nodes.items);
+        few : length s.nodes.items ≤ 2097151;
+        light : s.used ≤ 2 ^ 25;
+    } };
+}
+
+impl Store {
+    ghost use Rattle.std.specs.Prelude.{◌≡◌, ◌<◌, ◌≤◌, ◌^◌, [], length, IfOk};
+    ghost use Rattle.numbered.specs.Store.{IsNumber, IsStore, used as used_by};
+    ghost use Rattle.node_store.specs.Kept.{IsHeld};
+
+    /// A store without nodes.
+    pub fn new(alloc: Global) -> Store
+        ensures { result ≡ [] }
+    {
+        Store {
+            nodes: Vec::new(alloc),
+            used: 0,
+        }
+    }
+
+    /// How many nodes there are: the highest number that was given, at most 2^21 - 1.
+    #[tactic(auto, using(crate::specs::Grown::length_news))]
+    pub fn len(&self) -> u64
+        ensures value { result ≡ length self.now }
+        ensures few { length self.now < 2 ^ 21 }
+        ensures store { IsStore self.now }
+    {
+        self.nodes.len() as u64
+    }
+
+    /// The sum of the own weights of all nodes, at most 2^25.
+    pub fn used(&self) -> u64
+        ensures value { result ≡ used_by self.now }
+        ensures light { result ≤ 2 ^ 25 }
+    {
+        self.used
+    }
+
+    fn held(&self, id: NodeId) -> &Held
+        requires { IsNumber self.now id }
+        ensures { IsHeld self.now result.now id }
+    {
+        &self.nodes[(id.get() - 1) as usize]
+    }
 }
