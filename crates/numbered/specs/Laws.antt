@@ -1,14 +1,18 @@
 -- What holds of stores and of numbered states.
 use Rattle.std.proofs.Common.{◌≡◌, ◌≢◌, ℕ, zero, suc, ◌+◌, ◌-◌, ◌<◌, ◌≤◌, List, [], ◌∷◌, ◌++◌, length, get_or, take, drop, refl, ap, sym, ◌∙◌, subst, arith, true, false, max}
-use Rattle.std.specs.Prelude.{Option, Some, None, nat_lt, Bool, ◌||◌, ◌^◌}
+use Rattle.std.specs.Prelude.{Option, Some, None, nat_lt, Bool, ◌||◌, ◌^◌, slice_get, IsTrue}
 use Rattle.std.proofs.lemmas.List.{append-nil, append_assoc}
 use Rattle.std.proofs.lemmas.Grind.{common_steps, elements}
 use Rattle.value_model.specs.declared.key.Key.{Key}
 use Rattle.value_model.specs.declared.key.Key.TheVariants as key
 use Rattle.value_model.specs.declared.words.Kind.{Kind}
+use Rattle.value_model.specs.declared.words.Limit.{Limit}
+use Rattle.value_model.specs.declared.words.Limit.TheVariants as limit
+use Rattle.value_model.specs.Limits.{value_limit, state_limit}
+use Rattle.value_model.specs.Well.{well}
 use Rattle.value_model.specs.Plain as plain_value
 use Rattle.value_model.specs.Plain.{Plain, Entries, key_weight, place_weight, weight, weights, values, values_in}
-use Rattle.numbered.specs.Tree.{Tree, Branches, prim, node, none, branch, plain, plains, number, containers, containers_in, place, place_in, IsNumberedState, child_weight, child_weights, own_weight}
+use Rattle.numbered.specs.Tree.{Tree, Branches, prim, node, none, branch, plain, plains, number, containers, containers_in, place, place_in, IsNumberedState, child_weight, child_weights, own_weight, branches_of, children, before}
 use Rattle.numbered.specs.Store.{IsNumber, tree_at, used, IsOf, AllOf, IsNext, AreNext, IsStore, is_full}
 use Rattle.numbered.specs.Loading.{places, places_in, numbered, numbered_in, post_order, post_orders, additions, loaded, any_full, load_full}
 
@@ -119,6 +123,49 @@ numbered_state ts t s o m n u v p q e =
     (λ k h. place_container m t k (p ∙ ap Some h))
     (λ k h. place_container n t k (q ∙ ap Some h))
     (place_of ts s m t u o p) (place_of ts s n t v o q) e
+
+-- ---- the entry in which a place lies
+pub before_le : (i : ℕ) (es : Branches) → before i es ≤ containers_in es
+before_le zero es = omega arith
+before_le (suc i) none = omega arith
+before_le (suc i) (branch k v es) = omega (arith, before_le i es)
+
+pub before_more : (i : ℕ) (es : Branches) (v : Tree) → slice_get (children es) i ≡ Some v → before (suc i) es ≡ before i es + containers v
+before_more i none v h = absurd (cc)
+before_more zero (branch k w es) v h = let e : w ≡ v = cc in omega (arith, ap containers e)
+before_more (suc i) (branch k w es) v h = omega (arith, before_more i es v h)
+
+pub before_all : (es : Branches) → before (length (children es)) es ≡ containers_in es
+before_all none = refl
+before_all (branch k v es) = omega (arith, before_all es)
+
+-- the n-th place under a container is a place of the child in which it lies
+pub place_in_child : (i n : ℕ) (es : Branches) (v : Tree) → slice_get (children es) i ≡ Some v → before i es ≤ n → n < before i es + containers v → place_in n es ≡ place (n - before i es) v
+place_in_child i n none v h a b = absurd (cc)
+place_in_child zero n (branch k w es) v h a b =
+    let e : w ≡ v = cc in
+    let yes : nat_lt n (containers w) ≡ true = grind (arith, b, ap containers e) in
+    let z : n - 0 ≡ n = omega arith in
+    rw (yes, z) (ap (place n) e)
+place_in_child (suc i) n (branch k w es) v h a b =
+    let no : nat_lt n (containers w) ≡ false = grind (arith, a) in
+    let back : n - (containers w + before i es) ≡ n - containers w - before i es = omega arith in
+    rw (no, back) (place_in_child i (n - containers w) es v h (omega (arith, a)) (omega (arith, a, b)))
+
+-- a primitive has no places, a container is its first
+pub first_place : (n : ℕ) (t : Tree) → n ≤ 0 → n < containers t → place n t ≡ Some t
+first_place n (prim k) z h = absurd (omega arith)
+first_place zero (node id kind es) z h = refl
+first_place (suc n) (node id kind es) z h = absurd (omega arith)
+
+pub next_place : (n : ℕ) (t : Tree) → 1 ≤ n → place n t ≡ place_in (n - 1) (branches_of t)
+next_place n (prim k) h = refl
+next_place zero (node id kind es) h = absurd (omega arith)
+next_place (suc n) (node id kind es) h = let e : suc n - 1 ≡ n = omega arith in rw e refl
+
+pub containers_of : (t : Tree) → containers t ≤ containers_in (branches_of t) + 1
+containers_of (prim k) = omega arith
+containers_of (node id kind es) = omega arith
 
 -- ---- what a value's numbering keeps
 mutual
@@ -237,3 +284,56 @@ full_append ts (u ∷ us) vs =
     let rest = full_append (ts ++ u ∷ []) us vs in
     let same = append_assoc ts (u ∷ []) us in
     ap (λ (b : Bool). is_full ts u || b) (rest ∙ ap (λ (ws : List Tree). any_full (ts ++ u ∷ []) us || any_full ws vs) same) ∙ or_assoc (is_full ts u) _ _
+
+-- ---- what an accepted state measures
+pub record IsSmall (v : Plain) : Type 0 where
+  pub depth : plain_value.depth v ≤ 32
+  pub weight : weight v ≤ 2 ^ 20
+
+within : (a b : ℕ) → nat_lt a b ≡ false → b ≤ a
+within a b h = grind (arith, h)
+
+small_value : (v : Plain) → value_limit v ≡ None → IsSmall v
+small_value v = elim (nat_lt 32 (plain_value.depth v)) as (λ b. nat_lt 32 (plain_value.depth v) ≡ b → value_limit v ≡ None → IsSmall v) [
+  | true ↦ λ p h. absurd (let e : Some limit.TooDeep ≡ None = rw p at h in cc)
+  | false ↦ λ p. elim (nat_lt (2 ^ 20) (weight v)) as (λ c. nat_lt (2 ^ 20) (weight v) ≡ c → value_limit v ≡ None → IsSmall v) [
+    | true ↦ λ q h. absurd (let e : Some limit.TooBig ≡ None = rw (p, q) at h in cc)
+    | false ↦ λ q h. record { depth = within 32 (plain_value.depth v) p; weight = within (2 ^ 20) (weight v) q }
+  ] refl
+] refl
+
+pub small_state : (v : Plain) → state_limit v ≡ None → IsSmall v
+small_state (plain_value.prim k) h = absurd (cc)
+small_state (plain_value.node kind es) h = small_value (plain_value.node kind es) h
+
+next_small : (ts : List Tree) (t : Tree) → IsNext ts t → IsSmall (plain t)
+next_small ts (prim k) h = absurd h
+next_small ts (node id kind es) h = small_state (plain (node id kind es)) h.accepted
+
+next_well : (ts : List Tree) (t : Tree) → IsNext ts t → IsTrue (well (plain t))
+next_well ts (prim k) h = absurd h
+next_well ts (node id kind es) h = h.well
+
+next_accepted : (ts : List Tree) (t : Tree) → IsNext ts t → state_limit (plain t) ≡ None
+next_accepted ts (prim k) h = absurd h
+next_accepted ts (node id kind es) h = h.accepted
+
+-- a store's states are accepted, in order and small
+pub small_at : (ts : List Tree) (id : ℕ) → IsStore ts → IsNumber ts id → IsSmall (plain (tree_at ts id))
+small_at ts id s h = next_small (take (id - 1) ts) (tree_at ts id) (state_at ts id s h)
+
+pub well_at : (ts : List Tree) (id : ℕ) → IsStore ts → IsNumber ts id → IsTrue (well (plain (tree_at ts id)))
+well_at ts id s h = next_well (take (id - 1) ts) (tree_at ts id) (state_at ts id s h)
+
+pub accepted_at : (ts : List Tree) (id : ℕ) → IsStore ts → IsNumber ts id → state_limit (plain (tree_at ts id)) ≡ None
+accepted_at ts id s h = next_accepted (take (id - 1) ts) (tree_at ts id) (state_at ts id s h)
+
+pub values_at : (ts : List Tree) (id : ℕ) → IsStore ts → IsNumber ts id → values (plain (tree_at ts id)) ≤ 2 ^ 20
+values_at ts id s h = let w = (small_at ts id s h).weight in let l = values_le_weight (plain (tree_at ts id)) in omega (arith, w, l)
+
+pub containers_at : (ts : List Tree) (id : ℕ) → IsStore ts → IsNumber ts id → containers (tree_at ts id) ≤ 2 ^ 20
+containers_at ts id s h =
+    let v = values_at ts id s h in
+    let l = places_le_values (plain (tree_at ts id)) in
+    let c = containers_plain (tree_at ts id) in
+    omega (arith, v, l, c)

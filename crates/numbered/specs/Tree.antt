@@ -1,5 +1,5 @@
 -- Numbered states: a plain value in which every container carries a number, as structural sharing gives them out.
-use Rattle.std.specs.Prelude.{◌≡◌, ℕ, zero, suc, ◌+◌, ◌-◌, nat_lt, if◌then◌else◌, Option, Some, None}
+use Rattle.std.specs.Prelude.{◌≡◌, ℕ, zero, suc, ◌+◌, ◌-◌, nat_lt, if◌then◌else◌, Option, Some, None, List, [], ◌∷◌}
 use Rattle.value_model.specs.declared.key.Key.{Key}
 use Rattle.value_model.specs.declared.words.Kind.{Kind}
 use Rattle.value_model.specs.Plain as plain_value
@@ -59,6 +59,10 @@ IsNumberedState t = (m n : ℕ) (u v : Tree) → place m t ≡ Some u → place 
 abbrev pub branches_of : Tree → Branches
 branches_of (prim k) = none
 branches_of (node id kind es) = es
+
+abbrev pub children : Branches → List Tree
+children none = []
+children (branch k v es) = v ∷ children es
 
 -- how many container places come before the i-th entry
 abbrev pub before : ℕ → Branches → ℕ
