@@ -7,6 +7,8 @@
 
 mod held;
 mod node;
+mod reads;
+mod search;
 mod store;
 
 pub use node::{Cell, Cells, Keys, Node, NodeId};

@@ -36,7 +36,7 @@ impl Model for Store {
 impl Store {
     ghost use Rattle.std.specs.Prelude.{◌≡◌, ◌<◌, ◌≤◌, ◌^◌, [], length, IfOk};
     ghost use Rattle.numbered.specs.Store.{IsNumber, IsStore, used as used_by};
-    ghost use Rattle.node_store.specs.Kept.{IsHeld};
+    ghost use Rattle.node_store.specs.Shown.{IsRead};
 
     /// A store without nodes.
     pub fn new(alloc: Global) -> Store
@@ -66,9 +66,11 @@ impl Store {
         self.used
     }
 
-    fn held(&self, id: NodeId) -> &Held
+    /// What is held of a node.
+    pub(crate) fn held(&self, id: NodeId) -> &Held
         requires { IsNumber self.now id }
-        ensures { IsHeld self.now result.now id }
+        ensures held { IsRead self.now result.now id }
+        ensures store { IsStore self.now }
     {
         &self.nodes[(id.get() - 1) as usize]
     }

@@ -152,6 +152,12 @@ place_in_child (suc i) n (branch k w es) v h a b =
     let back : n - (containers w + before i es) ≡ n - containers w - before i es = omega arith in
     rw (no, back) (place_in_child i (n - containers w) es v h (omega (arith, a)) (omega (arith, a, b)))
 
+pub within_child : (i n : ℕ) (es : Branches) (v : Tree) → slice_get (children es) i ≡ Some v → n < before (i + 1) es → n < before i es + containers v
+within_child i n es v h a =
+    let one : i + 1 ≡ suc i = omega arith in
+    let b : n < before (suc i) es = subst (λ j. n < before j es) one a in
+    omega (arith, b, before_more i es v h)
+
 -- a primitive has no places, a container is its first
 pub first_place : (n : ℕ) (t : Tree) → n ≤ 0 → n < containers t → place n t ≡ Some t
 first_place n (prim k) z h = absurd (omega arith)
