@@ -20,16 +20,17 @@ use Rattle.value_model.specs.Well.{fits, all_fit, all_well, well}
 use Rattle.numbered.specs.Tree as tree
 use Rattle.numbered.specs.Tree.{Tree, prim, node, plain, plains, own_weight}
 use Rattle.numbered.specs.Store.{IsNumber, tree_at, used, IsNext, IsStore}
-use Rattle.numbered.specs.Laws.{well_at, small_state, values_le_weight, places_le_values, containers_plain}
+use Rattle.numbered.specs.Laws.{well_at, small_state, child_at, some_value, values_le_weight, places_le_values, containers_plain}
 use Rattle.node_store.specs.declared.node.Cell.{Cell}
 use Rattle.node_store.specs.declared.node.Cell.TheVariants as cell
 use Rattle.node_store.specs.declared.node.Node.{Node}
 use Rattle.node_store.specs.declared.held.Held.{Held}
+use Rattle.node_store.specs.declared.held.Measures.{Measures}
 use Rattle.node_store.specs.Nodes.{cell_fits, cells_fit, no_keys, ascending, is_node, key_of, rows, CellBelow, CellsBelow, cell_tree, branches, built}
 use Rattle.node_store.specs.Kept.{sums, IsPaired, tree_of, IsKept}
 use Rattle.node_store.specs.Tables.{cells_of_rows, keys_again, all_of_store}
 use Rattle.node_store.specs.Shown.{left_true, right_true, zip_keys, own_keys, sorted_alike, list_keys, rows_below}
-use Rattle.node_store.specs.Sums.{keys_weight, cell_weights, cell_values, deepest_cell, cell_containers, own_weights, weight_built, own_built, values_built, depth_built, containers_built}
+use Rattle.node_store.specs.Sums.{keys_weight, cell_weights, cell_values, deepest_cell, cell_containers, own_weights, weight_built, own_built, values_built, depth_built, containers_built, IsLight, IsMeasured}
 
 -- the state that a node stands for, if it is added
 abbrev pub state_of : List Tree → Node → Tree
@@ -184,3 +185,81 @@ kept_node ts h ks s b n l t =
       containers = let w = containers_built ts h.kind h.keys.items cs paired in let x = t.containers in omega (arith, w, x);
       depth = let w = depth_built ts h.kind h.keys.items cs paired in let x = t.depth in omega (arith, w, x);
     }
+
+-- ---- what an accepted node measures
+own_le : (ts : List Tree) (cs : List Cell) → IsStore ts → CellsBelow ts cs → own_weights ts cs ≤ cell_weights ts cs
+own_le ts [] s b = omega arith
+own_le ts (cell.Prim k ∷ cs) s b = omega (arith, own_le ts cs s b.1)
+own_le ts (cell.Node id ∷ cs) s b =
+    let one = child_at ts id s b.0 in
+    let heavy = values_le_weight (plain (tree_at ts id)) in
+    let some = some_value (plain (tree_at ts id)) in
+    omega (arith, own_le ts cs s b.1, one, heavy, some)
+
+pub light_state : (ts : List Tree) (of : Kind) (ks : List Key) (cs : List Cell) → IsStore ts → is_node of ks cs ≡ true → CellsBelow ts cs → state_limit (plain (built ts of ks cs)) ≡ None → IsLight ts of ks cs
+light_state ts of ks cs s n b l =
+    let p = stored_paired of ks cs n in
+    let same = ap (λ (t : Tree). plain t) (stored_built ts of ks cs) in
+    let small = small_state (plain (built ts of ks cs)) l in
+    let keys = stored_weight of ks in
+    let weight = weight_built ts of (stored of ks) cs p in
+    let values = values_built ts of (stored of ks) cs p in
+    let depth = depth_built ts of (stored of ks) cs p in
+    let places = containers_built ts of (stored of ks) cs p in
+    let w : plain_value.weight (plain (built ts of ks cs)) ≡ 1 + keys_weight of ks + cell_weights ts cs = ap plain_value.weight (sym same) ∙ weight ∙ ap (λ (n : ℕ). 1 + n + cell_weights ts cs) keys in
+    let v : plain_value.values (plain (built ts of ks cs)) ≡ 1 + cell_values ts cs = ap plain_value.values (sym same) ∙ values in
+    let d : plain_value.depth (plain (built ts of ks cs)) ≡ 1 + deepest_cell ts cs = ap plain_value.depth (sym same) ∙ depth in
+    let c : tree.containers (built ts of ks cs) ≡ 1 + cell_containers ts cs = ap tree.containers (sym (stored_built ts of ks cs)) ∙ places in
+    let at_most = small.weight in
+    let deep = small.depth in
+    let fewer = values_le_weight (plain (built ts of ks cs)) in
+    let fewest = places_le_values (plain (built ts of ks cs)) in
+    let counted = containers_plain (built ts of ks cs) in
+    record {
+      own = let o = own_le ts cs s b in omega (arith, o, w, at_most);
+      weight = omega (arith, w, at_most);
+      values = omega (arith, v, fewer, at_most);
+      depth = omega (arith, d, deep);
+      places = omega (arith, c, counted, fewest, fewer, at_most);
+    }
+
+-- the own weight of the state that a node stands for
+pub own_state : (ts : List Tree) (of : Kind) (ks : List Key) (cs : List Cell) → is_node of ks cs ≡ true → own_weight (built ts of ks cs) ≡ 1 + keys_weight of ks + own_weights ts cs
+own_state ts of ks cs n =
+    ap own_weight (sym (stored_built ts of ks cs)) ∙ own_built ts of (stored of ks) cs (stored_paired of ks cs n) ∙ ap (λ (n : ℕ). 1 + n + own_weights ts cs) (stored_weight of ks)
+
+-- ---- what is held after the node was taken apart
+pub record IsHolding (ts : List Tree) (h : Held) (ks : List Key) (cs : List Cell) (m : Measures) : Type 0 where
+  pub keys : h.keys.items ≡ stored h.kind ks
+  pub cells : h.cells.items ≡ cs
+  pub before : h.before.items ≡ sums ts 0 cs
+  pub total : h.total ≡ used ts + m.own
+  pub weight : h.weight ≡ m.weight
+  pub values : h.values ≡ m.values
+  pub places : h.containers ≡ m.containers
+  pub depth : h.depth ≡ m.depth
+
+tallied : (ts : List Tree) (h : Held) (ks : List Key) (cs : List Cell) (m : Measures) → IsHolding ts h ks cs m → IsMeasured ts h.kind ks cs m → h.before.items ≡ sums ts 0 h.cells.items → IsTallied ts h ks
+tallied ts h ks cs m i d b =
+    let e : cs ≡ h.cells.items = sym i.cells in
+    record {
+      keys = i.keys;
+      before = b;
+      total = let x = i.total in let y = d.own in let z = ap (own_weights ts) e in omega (arith, x, y, z);
+      weight = let x = i.weight in let y = d.weight in let z = ap (cell_weights ts) e in omega (arith, x, y, z);
+      values = let x = i.values in let y = d.values in let z = ap (cell_values ts) e in omega (arith, x, y, z);
+      containers = let x = i.places in let y = d.places in let z = ap (cell_containers ts) e in omega (arith, x, y, z);
+      depth = let x = i.depth in let y = d.depth in let z = ap (deepest_cell ts) e in omega (arith, x, y, z);
+    }
+
+pub kept_from : (ts : List Tree) (h : Held) (ks : List Key) (cs : List Cell) (m : Measures) → IsStore ts → CellsBelow ts cs → is_node h.kind ks cs ≡ true → state_limit (plain (built ts h.kind ks cs)) ≡ None → IsMeasured ts h.kind ks cs m → IsHolding ts h ks cs m → IsKept ts h
+kept_from ts h ks cs m s b n l d i =
+    let e : cs ≡ h.cells.items = sym i.cells in
+    kept_node ts h ks s
+    (subst (CellsBelow ts) e b)
+    (subst (λ ds. is_node h.kind ks ds ≡ true) e n)
+    (subst (λ ds. state_limit (plain (built ts h.kind ks ds)) ≡ None) e l)
+    (tallied ts h ks cs m i d (i.before ∙ ap (sums ts 0) e))
+
+pub same_from : (ts : List Tree) (h : Held) (ks : List Key) (cs : List Cell) → h.keys.items ≡ stored h.kind ks → h.cells.items ≡ cs → tree_of ts h ≡ built ts h.kind ks cs
+same_from ts h ks cs a b = same_state ts h ks a ∙ ap (built ts h.kind ks) b

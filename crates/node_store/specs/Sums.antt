@@ -1,5 +1,5 @@
 -- What the cells of a table measure together.
-use Rattle.std.proofs.Common.{◌≡◌, ℕ, ◌+◌, ◌≤◌, List, [], ◌∷◌, map, max, refl, ap, sym, ◌∙◌, arith, length}
+use Rattle.std.proofs.Common.{◌≡◌, ℕ, ◌+◌, ◌^◌, ◌≤◌, List, [], ◌∷◌, map, max, refl, ap, sym, ◌∙◌, arith, length}
 use Rattle.std.specs.List.{zip}
 use Rattle.value_model.specs.declared.key.Key.{Key}
 use Rattle.value_model.specs.declared.key.Key.TheVariants as key
@@ -10,6 +10,7 @@ use Rattle.value_model.specs.Plain.{key_weight, place_weight}
 use Rattle.numbered.specs.Tree as tree
 use Rattle.numbered.specs.Tree.{Tree, node, plain, plains, child_weight, child_weights, own_weight}
 use Rattle.node_store.specs.declared.node.Cell.{Cell}
+use Rattle.node_store.specs.declared.held.Measures.{Measures}
 use Rattle.node_store.specs.Nodes.{cell_tree, branches, rows, key_of, built}
 use Rattle.node_store.specs.Kept.{IsPaired}
 use Rattle.node_store.specs.Tables.{cells_of_rows}
@@ -44,6 +45,22 @@ abbrev pub keys_weight : Kind → List Key → ℕ
 keys_weight kind.Obj ks = key_sum ks
 keys_weight kind.Map ks = key_sum ks
 keys_weight _ ks = 0
+
+-- a table whose state is within the limits
+pub record IsLight (ts : List Tree) (of : Kind) (ks : List Key) (cs : List Cell) : Type 0 where
+  pub own : 1 + keys_weight of ks + own_weights ts cs ≤ 2 ^ 20
+  pub weight : 1 + keys_weight of ks + cell_weights ts cs ≤ 2 ^ 20
+  pub values : 1 + cell_values ts cs ≤ 2 ^ 20
+  pub depth : 1 + deepest_cell ts cs ≤ 32
+  pub places : 1 + cell_containers ts cs ≤ 2 ^ 20
+
+-- what a table measures
+pub record IsMeasured (ts : List Tree) (of : Kind) (ks : List Key) (cs : List Cell) (m : Measures) : Type 0 where
+  pub own : m.own ≡ 1 + keys_weight of ks + own_weights ts cs
+  pub weight : m.weight ≡ 1 + keys_weight of ks + cell_weights ts cs
+  pub values : m.values ≡ 1 + cell_values ts cs
+  pub depth : m.depth ≡ 1 + deepest_cell ts cs
+  pub places : m.containers ≡ 1 + cell_containers ts cs
 
 -- ---- a table's measures are those of its keys and cells
 abbrev place_weights : Kind → List Key → ℕ

@@ -19,3 +19,13 @@ pub struct Held {
     pub depth: u8,
     pub kind: Kind,
 }
+
+/// What a node measures.
+#[derive(Clone, Copy, Drop)]
+pub struct Measures {
+    pub own: u64,
+    pub weight: u64,
+    pub values: u64,
+    pub depth: u64,
+    pub containers: u64,
+}

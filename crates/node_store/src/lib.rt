@@ -5,12 +5,16 @@
 //! held shows in no contract.
 #![tactic(auto)]
 
+mod add;
+mod fault;
 mod held;
 mod node;
 mod reads;
 mod search;
 mod store;
+mod tally;
 
+pub use fault::StoreFault;
 pub use node::{Cell, Cells, Keys, Node, NodeId};
 pub use store::Store;
 pub use value_model::Kind;

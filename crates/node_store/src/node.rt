@@ -35,6 +35,14 @@ impl NodeId {
         }
     }
 
+    /// The number of the n-th node, counted from 1.
+    pub(crate) fn nth(number: u64) -> NodeId
+        requires { 1 ≤ number }
+        ensures { result ≡ number }
+    {
+        NodeId { number }
+    }
+
     /// The number.
     pub fn get(&self) -> u64
         ensures value { result ≡ self.now }

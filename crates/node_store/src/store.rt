@@ -1,6 +1,6 @@
 use crate::held::Held;
 use crate::node::NodeId;
-use std::alloc::Global;
+use std::alloc::{AllocError, Global};
 use std::marker::Model;
 
 /// Frozen nodes under numbers from 1, children before parents.
@@ -34,8 +34,9 @@ impl Model for Store {
 }
 
 impl Store {
-    ghost use Rattle.std.specs.Prelude.{◌≡◌, ◌<◌, ◌≤◌, ◌^◌, [], length, IfOk};
-    ghost use Rattle.numbered.specs.Store.{IsNumber, IsStore, used as used_by};
+    ghost use Rattle.std.specs.Prelude.{◌≡◌, ◌<◌, ◌≤◌, ◌^◌, [], ◌∷◌, ◌++◌, length, false, IfOk, OnErr};
+    ghost use Rattle.numbered.specs.Store.{IsNumber, IsStore, is_full, used as used_by};
+    ghost use Rattle.node_store.specs.Kept.{IsKept, tree_of};
     ghost use Rattle.node_store.specs.Shown.{IsRead};
 
     /// A store without nodes.
@@ -73,5 +74,18 @@ impl Store {
         ensures store { IsStore self.now }
     {
         &self.nodes[(id.get() - 1) as usize]
+    }
+
+    /// Adds what is held of the next node.
+    pub(crate) fn push(&mut self, held: Held) -> Result<NodeId, AllocError>
+        requires kept { IsKept self.old held }
+        requires room { is_full self.old (tree_of self.old held) ≡ false }
+        ensures ok { IfOk result (λ id. (id ≡ length self.new) × (self.new ≡ self.old ++ tree_of self.old held ∷ [])) }
+        ensures stands { OnErr result (self.new ≡ self.old) }
+    {
+        let used = held.total as u64;
+        self.nodes.push(held)?;
+        self.used = used;
+        Ok(NodeId::nth(self.nodes.len() as u64))
     }
 }

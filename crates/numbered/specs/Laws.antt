@@ -230,6 +230,10 @@ mutual
   values_in_le_weights kind plain_value.none = omega arith
   values_in_le_weights kind (plain_value.entry k v es) = omega (arith, values_le_weight v, values_in_le_weights kind es)
 
+pub some_value : (v : Plain) → 1 ≤ values v
+some_value (plain_value.prim k) = omega arith
+some_value (plain_value.node kind es) = omega arith
+
 -- every container is a value
 mutual
   pub places_le_values : (v : Plain) → places v ≤ values v
@@ -323,6 +327,13 @@ next_well ts (node id kind es) h = h.well
 next_accepted : (ts : List Tree) (t : Tree) → IsNext ts t → state_limit (plain t) ≡ None
 next_accepted ts (prim k) h = absurd h
 next_accepted ts (node id kind es) h = h.accepted
+
+next_child : (ts : List Tree) (t : Tree) → IsNext ts t → child_weight t ≡ 1
+next_child ts (prim k) h = absurd h
+next_child ts (node id kind es) h = refl
+
+pub child_at : (ts : List Tree) (id : ℕ) → IsStore ts → IsNumber ts id → child_weight (tree_at ts id) ≡ 1
+child_at ts id s h = next_child (take (id - 1) ts) (tree_at ts id) (state_at ts id s h)
 
 -- a store's states are accepted, in order and small
 pub small_at : (ts : List Tree) (id : ℕ) → IsStore ts → IsNumber ts id → IsSmall (plain (tree_at ts id))
