@@ -117,3 +117,7 @@ total_at hs i d s l =
     let long = length_news [] hs in
     let more = take_next us i (prim key.Null) (omega (arith, l, long)) in
     at.kept.total ∙ ap (λ (n : ℕ). used (take i us) + n) (ap own_weight (sym (at.same (prim key.Null))) ∙ zero_after (own_weight (get_or us i (prim key.Null)))) ∙ sym (used_append (take i us) (get_or us i (prim key.Null) ∷ [])) ∙ ap used (sym more)
+
+pub total_through : (hs : List Held) (n : ℕ) (d : Held) → Sound [] hs → 1 ≤ n → n ≤ length hs → (get_or hs (n - 1) d).total ≡ used (take n (news [] hs))
+total_through hs zero d s one l = absurd (omega arith)
+total_through hs (suc n) d s one l = let e : suc n - 1 ≡ n = omega arith in rw e (total_at hs n d s (omega arith))

@@ -16,5 +16,5 @@ mod tally;
 
 pub use fault::StoreFault;
 pub use node::{Cell, Cells, Keys, Node, NodeId};
-pub use store::Store;
+pub use store::{Mark, Store};
 pub use value_model::Kind;

@@ -33,8 +33,26 @@ impl Model for Store {
     } };
 }
 
+/// How many nodes a store had at a moment.
+///
+/// A contract sees it as the number.
+#[derive(Clone, Copy, Debug, Drop)]
+pub struct Mark {
+    len: u64,
+}
+
+impl Model for Mark {
+    ghost use Rattle.std.specs.Prelude.{ℕ};
+
+    ghost Value = { ℕ };
+
+    ghost view = { λ m. m.len };
+
+    ghost inverse = { λ n. record { len = n } };
+}
+
 impl Store {
-    ghost use Rattle.std.specs.Prelude.{◌≡◌, ◌<◌, ◌≤◌, ◌^◌, [], ◌∷◌, ◌++◌, length, false, IfOk, OnErr};
+    ghost use Rattle.std.specs.Prelude.{◌≡◌, ◌<◌, ◌≤◌, ◌^◌, [], ◌∷◌, ◌++◌, length, take, false, IfOk, OnErr};
     ghost use Rattle.numbered.specs.Store.{IsNumber, IsStore, is_full, used as used_by};
     ghost use Rattle.node_store.specs.Kept.{IsKept, tree_of};
     ghost use Rattle.node_store.specs.Shown.{IsRead};
@@ -65,6 +83,35 @@ impl Store {
         ensures light { result ≤ 2 ^ 25 }
     {
         self.used
+    }
+
+    /// The present moment, to which `cut_to` leads back.
+    pub fn mark(&self) -> Mark
+        ensures { result ≡ length self.now }
+    {
+        Mark { len: self.len() }
+    }
+
+    /// Leaves the first nodes, as many as there were at the mark. It takes no memory.
+    pub fn cut_to(&mut self, mark: Mark)
+        requires { mark ≤ length self.old }
+        ensures { self.new ≡ take mark self.old }
+    {
+        let used = self.used_through(mark.len);
+        self.nodes.truncate(mark.len as usize);
+        self.used = used;
+    }
+
+    /// The sum of the own weights of the first nodes.
+    fn used_through(&self, len: u64) -> u64
+        requires { len ≤ length self.now }
+        ensures { result ≡ used_by (take len self.now) }
+    {
+        if len == 0 {
+            0
+        } else {
+            self.nodes[(len - 1) as usize].total as u64
+        }
     }
 
     /// What is held of a node.
