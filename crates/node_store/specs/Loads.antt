@@ -1,5 +1,5 @@
 -- Loading, step by step: what was loaded, and what the rest will add.
-use Rattle.std.proofs.Common.{◌≡◌, ◌≢◌, ℕ, zero, suc, ◌+◌, ◌-◌, ◌^◌, ◌<◌, ◌≤◌, List, [], ◌∷◌, ◌++◌, length, map, max, get_or, take, refl, ap, sym, ◌∙◌, subst, arith, true, false, length-append}
+use Rattle.std.proofs.Common.{◌≡◌, ◌≢◌, ℕ, zero, suc, ◌+◌, ◌-◌, ◌^◌, ◌<◌, ◌≤◌, List, [], ◌∷◌, ◌++◌, length, map, max, get_or, take, drop, refl, ap, sym, ◌∙◌, subst, arith, true, false, length-append}
 use Rattle.std.specs.Prelude.{Bool, ◌&&◌, ◌||◌, IsTrue, None, Some, Option, ⊤, nat_lt, Result, Ok, Err, MatchResult}
 use Rattle.std.specs.List.{zip}
 use Rattle.std.proofs.lemmas.List.{append_assoc, append-nil}
@@ -23,12 +23,18 @@ use Rattle.numbered.specs.Store.{IsNumber, tree_at, IsStore, is_full}
 use Rattle.numbered.specs.Loading.{places, places_in, numbered, numbered_in, post_order, post_orders, additions, loaded, any_full, load_full}
 use Rattle.numbered.specs.Laws.{Extends, extends_refl, extends_then, extends_append, plain_numbered, plains_numbered, containers_numbered, all_containers_numbered, length_post, length_posts, full_append}
 use Rattle.node_store.specs.declared.fault.StoreFault.{StoreFault}
-use Rattle.node_store.specs.declared.fault.StoreFault.TheVariants.{Full}
+use Rattle.node_store.specs.declared.fault.StoreFault.TheVariants.{Full, Memory}
 use Rattle.node_store.specs.declared.node.Cell.{Cell}
+use Rattle.node_store.specs.declared.node.Node.{Node}
 use Rattle.node_store.specs.declared.node.Cell.TheVariants as cell
 use Rattle.node_store.specs.Nodes.{cell_fits, cells_fit, ascending, is_node, key_of, rows, CellBelow, CellsBelow, cell_tree, branches, built, keys_in}
 use Rattle.node_store.specs.Tables.{same_cell, cell_more, cells_more, same_branches, keys_again}
 use Rattle.node_store.specs.Shown.{left_true, right_true, sorted_alike, list_keys}
+
+-- the cell stands for a node
+abbrev pub IsNode : Cell → Type 0
+IsNode (cell.Prim k) = ⊥
+IsNode (cell.Node id) = ⊤
 
 -- ---- entries one after another
 abbrev pub loaded_in : List Tree → Entries → List Tree
@@ -46,12 +52,18 @@ abbrev pub AllWithin : Entries → Type 0
 AllWithin plain_value.none = ⊤
 AllWithin (plain_value.entry k v es) = (value_limit v ≡ None) × AllWithin es
 
+-- a container that was just loaded has the last number
+abbrev pub IsLast : List Tree → Cell → Type 0
+IsLast us (cell.Prim k) = ⊤
+IsLast us (cell.Node id) = id ≡ length us
+
 -- a value was loaded, and the cell stands for it
 pub record IsLoaded (ts us : List Tree) (v : Plain) (c : Cell) : Type 0 where
   pub store : us ≡ loaded ts v
   pub room : load_full ts v ≡ false
   pub below : CellBelow us c
   pub same : cell_tree us c ≡ numbered (length ts + 1) v
+  pub last : IsLast us c
 
 -- what a refusal leaves, and when it is for want of room
 abbrev pub Refused : List Tree → List Tree → Bool → StoreFault → Type 0
@@ -193,6 +205,86 @@ refused_in ts us of es e r =
     let t = numbered (length ts + 1) (plain_value.node of es) in
     (r.0, λ f. full_append ts (post_orders (numbered_in (length ts + 1) es)) (t ∷ []) ∙ true_or (full_in ts es) (is_full (loaded_in ts es) t || false) (r.1 f))
 
+-- ---- the node of a container whose entries were loaded
+at_end : (us : List Tree) (t : Tree) → get_or (us ++ t ∷ []) (length us) (prim key.Null) ≡ t
+at_end [] t = refl
+at_end (u ∷ us) t = at_end us t
+
+last_tree : (us : List Tree) (t : Tree) (id : ℕ) → id ≡ length us + 1 → tree_at (us ++ t ∷ []) id ≡ t
+last_tree us t id e = let at : id - 1 ≡ length us = omega (arith, e) in rw at (at_end us t)
+
+module _ (ts us : List Tree) (of : Kind) (es : Entries) (rs : List (Key × Cell)) (nk : Kind) (ks : List Key) (cs : List Cell) (a : AreLoaded ts es us rs) (k : nk ≡ of) (r : rows nk ks cs ≡ rs) where
+  own_branches : branches us (rows nk ks cs) ≡ numbered_in (length ts + 1) es
+  own_branches = ap (branches us) r ∙ a.same
+
+  pub root_accepted : value_limit (plain_value.node of es) ≡ None → state_limit (plain (built us nk ks cs)) ≡ None
+  root_accepted h = ap state_limit (root_value ts us nk es ks cs a.store own_branches ∙ ap (λ (j : Kind). plain_value.node j es) k) ∙ h
+
+  pub root_loaded : (vs : List Tree) (id : ℕ) → is_full us (built us nk ks cs) ≡ false → id ≡ length vs → vs ≡ us ++ built us nk ks cs ∷ [] → IsLoaded ts vs (plain_value.node of es) (cell.Node id)
+  root_loaded vs id f i v =
+      let long : id ≡ length us + 1 = i ∙ ap length v ∙ length-append us (built us nk ks cs ∷ []) in
+      subst (λ (j : Kind). IsLoaded ts vs (plain_value.node j es) (cell.Node id)) k (record {
+        store = v ∙ root_store ts us nk es ks cs a.store own_branches;
+        room = sym (root_room ts us nk es ks cs a.store own_branches a.room) ∙ f;
+        below = (omega (arith, long), omega (arith, i));
+        same = ap (λ (ws : List Tree). tree_at ws id) v ∙ last_tree us (built us nk ks cs) id long ∙ root_state ts us nk es ks cs a.store own_branches;
+        last = i;
+      })
+
+  pub root_refused : (vs : List Tree) (e : StoreFault) → vs ≡ us → (e ≡ Full → is_full us (built us nk ks cs) ≡ true) → Refused ts vs (load_full ts (plain_value.node of es)) e
+  root_refused vs e v f =
+      subst (λ (j : Kind). Refused ts vs (load_full ts (plain_value.node j es)) e) k
+      (subst (Extends ts) (sym v) a.extends, λ g. sym (root_room ts us nk es ks cs a.store own_branches a.room) ∙ f g)
+
+-- where a test would refuse and nothing was refused, it fails
+pub not_full : {X : Type 0} (b : Bool) (x : X) → (b ≡ true → Ok x ≡ Err Full) → b ≡ false
+not_full true x h = absurd (let e = h refl in cc)
+not_full false x h = refl
+
+-- ---- tables of keys and cells
+zip_back : (rs : List (Key × Cell)) → zip (map (λ r. r.0) rs) (map (λ r. r.1) rs) ≡ rs
+zip_back [] = refl
+zip_back (r ∷ rs) = ap (λ (qs : List (Key × Cell)). r ∷ qs) (zip_back rs)
+
+pub obj_rows : (n : Node) (rs : List (Key × Cell)) → n.kind ≡ kind.Obj → n.keys ≡ map (λ r. r.0) rs → n.cells ≡ map (λ r. r.1) rs → rows n.kind n.keys n.cells ≡ rs
+obj_rows n rs k a b = (λ i. rows (k i) (a i) (b i)) ∙ zip_back rs
+
+pub map_rows : (n : Node) (rs : List (Key × Cell)) → n.kind ≡ kind.Map → n.keys ≡ map (λ r. r.0) rs → n.cells ≡ map (λ r. r.1) rs → rows n.kind n.keys n.cells ≡ rs
+map_rows n rs k a b = (λ i. rows (k i) (a i) (b i)) ∙ zip_back rs
+
+self_pairs : (ks : List Key) → map (λ e. e.0) (map (λ k. let e : Key × Key = (k, k) in e) ks) ≡ ks
+self_pairs [] = refl
+self_pairs (k ∷ ks) = ap (λ (js : List Key). k ∷ js) (self_pairs ks)
+
+table_ascends : (us : List Tree) (rs : List (Key × Cell)) (es : Entries) → plains (branches us rs) ≡ es → is_sorted key_cmp (list_of es) ≡ true → ascending (map (λ r. r.0) rs) ≡ true
+table_ascends us rs es e h =
+    sorted_alike (map (λ k. let q : Key × Key = (k, k) in q) (map (λ r. r.0) rs)) (list_of es)
+    (self_pairs (map (λ r. r.0) rs) ∙ sym (keys_again us rs) ∙ sym (list_keys (branches us rs)) ∙ ap (λ (ds : Entries). map (λ q. q.0) (list_of ds)) e) ∙ h
+
+obj_cells : (us : List Tree) (rs : List (Key × Cell)) → all_fit kind.Obj (plains (branches us rs)) ≡ true → cells_fit kind.Obj (map (λ r. r.0) rs) (map (λ r. r.1) rs) ≡ true
+obj_cells us [] h = refl
+obj_cells us ((key.Text s, c) ∷ rs) h = obj_cells us rs h
+obj_cells us ((key.Null, c) ∷ rs) h = absurd (cc)
+obj_cells us ((key.Bool b, c) ∷ rs) h = absurd (cc)
+obj_cells us ((key.Int m, c) ∷ rs) h = absurd (cc)
+
+map_cells : (rs : List (Key × Cell)) → cells_fit kind.Map (map (λ r. r.0) rs) (map (λ r. r.1) rs) ≡ true
+map_cells [] = refl
+map_cells (r ∷ rs) = map_cells rs
+
+both_true : (a b : Bool) → a ≡ true → b ≡ true → (a && b) ≡ true
+both_true a b p q = rw (p, q) refl
+
+pub obj_node : (ts : List Tree) (es : Entries) (us : List Tree) (rs : List (Key × Cell)) → AreLoaded ts es us rs → is_sorted key_cmp (list_of es) ≡ true → all_fit kind.Obj es ≡ true → is_node kind.Obj (map (λ r. r.0) rs) (map (λ r. r.1) rs) ≡ true
+obj_node ts es us rs a s f =
+    let e : plains (branches us rs) ≡ es = ap plains a.same ∙ plains_numbered (length ts + 1) es in
+    both_true _ _ (table_ascends us rs es e s) (obj_cells us rs (ap (all_fit kind.Obj) e ∙ f))
+
+pub map_node : (ts : List Tree) (es : Entries) (us : List Tree) (rs : List (Key × Cell)) → AreLoaded ts es us rs → is_sorted key_cmp (list_of es) ≡ true → is_node kind.Map (map (λ r. r.0) rs) (map (λ r. r.1) rs) ≡ true
+map_node ts es us rs a s =
+    let e : plains (branches us rs) ≡ es = ap plains a.same ∙ plains_numbered (length ts + 1) es in
+    both_true _ _ (table_ascends us rs es e s) (map_cells rs)
+
 -- ---- limits hold inside
 within_limits : (v : Plain) → value_limit v ≡ None → (nat_lt 32 (plain_value.depth v) ≡ false) × (nat_lt (2 ^ 20) (plain_value.weight v) ≡ false) × (has_long_key v ≡ false) × (has_reserved_key v ≡ false)
 within_limits v = elim (nat_lt 32 (plain_value.depth v)) as (λ a. nat_lt 32 (plain_value.depth v) ≡ a → value_limit v ≡ None → (a ≡ false) × (nat_lt (2 ^ 20) (plain_value.weight v) ≡ false) × (has_long_key v ≡ false) × (has_reserved_key v ≡ false)) [
@@ -245,3 +337,74 @@ all_within of es h =
 pub limit_of_state : (v : Plain) → state_limit v ≡ None → value_limit v ≡ None
 limit_of_state (plain_value.prim k) h = absurd (cc)
 limit_of_state (plain_value.node of es) h = h
+
+-- ---- what the loops over entries do
+abbrev pub LoadsTable : Result (List (Key × Cell)) StoreFault → List Tree → List Tree → Entries → Type 0
+LoadsTable r ts us es = MatchResult r (λ rs. AreLoaded ts es us rs) (λ e. Refused ts us (full_in ts es) e)
+
+-- the entries from one on
+pub entries_step : {X : Type 0} (f : X → Key × Plain) (xs : List X) (i : ℕ) (x : X) → i < length xs → x ≡ get_or xs i x → entries (map f (drop i xs)) ≡ plain_value.entry (f x).0 (f x).1 (entries (map f (drop (i + 1) xs)))
+entries_step f [] i x l e = absurd (omega arith)
+entries_step f (y ∷ xs) zero x l e = λ j. plain_value.entry (f (sym e j)).0 (f (sym e j)).1 (entries (map f xs))
+entries_step f (y ∷ xs) (suc i) x l e = let n : suc i + 1 ≡ suc (i + 1) = omega arith in rw n (entries_step f xs i x (omega arith) e)
+
+-- no entries are left behind the last
+pub entries_end : {X : Type 0} (f : X → Key × Plain) (xs : List X) (i : ℕ) → length xs ≤ i → entries (map f (drop i xs)) ≡ plain_value.none
+entries_end f [] zero l = refl
+entries_end f [] (suc i) l = refl
+entries_end f (x ∷ xs) zero l = absurd (omega arith)
+entries_end f (x ∷ xs) (suc i) l = entries_end f xs i (omega arith)
+
+-- want of memory is no want of room
+pub for_memory : (ts us : List Tree) (full : Bool) → Extends ts us → Refused ts us full Memory
+for_memory ts us full e = (e, λ g. absurd (cc))
+
+-- a list's rows with one more cell
+pub list_push : (cs : List Cell) (c : Cell) → rows kind.List [] (cs ++ c ∷ []) ≡ rows kind.List [] cs ++ (key.Null, c) ∷ []
+list_push [] c = refl
+list_push (d ∷ cs) c = ap (λ (rs : List (Key × Cell)). (key.Null, d) ∷ rs) (list_push cs c)
+
+-- ---- a Set's members are primitives: nothing is added for them
+pub set_below : (us : List Tree) (ks : List Key) → CellsBelow us (map (λ k. cell.Prim k) ks)
+set_below us [] = tt
+set_below us (k ∷ ks) = (tt, set_below us ks)
+
+set_rows_of : (js ks : List Key) → map (λ r. r.1) (rows kind.Set js (map (λ k. cell.Prim k) ks)) ≡ map (λ k. cell.Prim k) ks
+set_rows_of js [] = refl
+set_rows_of js (k ∷ ks) = ap (λ (cs : List Cell). cell.Prim k ∷ cs) (set_rows_of js ks)
+
+pub set_rows : (ks : List Key) → map (λ r. r.1) (rows kind.Set ks (map (λ k. cell.Prim k) ks)) ≡ map (λ k. cell.Prim k) ks
+set_rows ks = set_rows_of ks ks
+
+set_branches : (us : List Tree) (n : ℕ) (js ks : List Key) → branches us (rows kind.Set js (map (λ k. cell.Prim k) ks)) ≡ numbered_in n (entries (map (λ k. let e : Key × Plain = (k, plain_value.prim k) in e) ks))
+set_branches us n js [] = refl
+set_branches us n js (k ∷ ks) = let m : n + 0 ≡ n = omega arith in rw m (ap (branch k (prim k)) (set_branches us n js ks))
+
+set_posts : (n : ℕ) (ks : List Key) → post_orders (numbered_in n (entries (map (λ k. let e : Key × Plain = (k, plain_value.prim k) in e) ks))) ≡ []
+set_posts n [] = refl
+set_posts n (k ∷ ks) = let m : n + 0 ≡ n = omega arith in rw m (set_posts n ks)
+
+pub set_loaded : (ts : List Tree) (ks : List Key) → AreLoaded ts (entries (map (λ k. let e : Key × Plain = (k, plain_value.prim k) in e) ks)) ts (rows kind.Set ks (map (λ k. cell.Prim k) ks))
+set_loaded ts ks =
+    let none = set_posts (length ts + 1) ks in
+    record {
+      extends = extends_refl ts;
+      below = subst (CellsBelow ts) (sym (set_rows ks)) (set_below ts ks);
+      store = sym (append-nil ts) ∙ ap (λ (us : List Tree). ts ++ us) (sym none);
+      room = ap (any_full ts) none;
+      same = set_branches ts (length ts + 1) ks ks;
+    }
+
+own_ascend : (ks : List Key) → map (λ e. e.0) (map (λ k. let e : Key × Plain = (k, plain_value.prim k) in e) ks) ≡ ks
+own_ascend [] = refl
+own_ascend (k ∷ ks) = ap (λ (js : List Key). k ∷ js) (own_ascend ks)
+
+set_cells_fit : (ks : List Key) → cells_fit kind.Set ks (map (λ k. cell.Prim k) ks) ≡ true
+set_cells_fit [] = refl
+set_cells_fit (k ∷ ks) = rw (tied_itself key_total k) (set_cells_fit ks)
+
+pub set_node : (ks : List Key) → is_sorted key_cmp (map (λ k. let e : Key × Plain = (k, plain_value.prim k) in e) ks) ≡ true → is_node kind.Set ks (map (λ k. cell.Prim k) ks) ≡ true
+set_node ks s =
+    both_true _ _
+    (sorted_alike (map (λ k. let q : Key × Key = (k, k) in q) ks) (map (λ k. let e : Key × Plain = (k, plain_value.prim k) in e) ks) (self_pairs ks ∙ sym (own_ascend ks)) ∙ s)
+    (set_cells_fit ks)

@@ -26,7 +26,7 @@ pub cells_more : (ts us : List Tree) (cs : List Cell) → Extends ts us → Cell
 cells_more ts us [] e b = tt
 cells_more ts us (c ∷ cs) e b = (cell_more ts us c e b.0, cells_more ts us cs e b.1)
 
-zip_cells : (ks : List Key) (cs : List Cell) → length ks ≡ length cs → map (λ r. r.1) (zip ks cs) ≡ cs
+pub zip_cells : (ks : List Key) (cs : List Cell) → length ks ≡ length cs → map (λ r. r.1) (zip ks cs) ≡ cs
 zip_cells [] [] p = refl
 zip_cells [] (c ∷ cs) p = absurd (omega arith)
 zip_cells (k ∷ ks) [] p = absurd (omega arith)
@@ -59,6 +59,12 @@ same_sums ts us at [] e b = refl
 same_sums ts us at (c ∷ cs) e b =
     let here = ap containers (same_cell ts us c e b.0) in
     ap (λ (ns : List ℕ). at ∷ ns) (ap (λ (n : ℕ). sums us (at + n) cs) here ∙ same_sums ts us (at + containers (cell_tree ts c)) cs e b.1)
+
+pub zip_push : (ks : List Key) (cs : List Cell) (k : Key) (c : Cell) → length ks ≡ length cs → zip (ks ++ k ∷ []) (cs ++ c ∷ []) ≡ zip ks cs ++ (k, c) ∷ []
+zip_push [] [] k c p = refl
+zip_push [] (d ∷ cs) k c p = absurd (omega arith)
+zip_push (j ∷ ks) [] k c p = absurd (omega arith)
+zip_push (j ∷ ks) (d ∷ cs) k c p = ap (λ (rs : List (Key × Cell)). (j, d) ∷ rs) (zip_push ks cs k c (omega arith))
 
 -- ---- what a state shows of its table
 shown : (us : List Tree) (t : Tree) (id : ℕ) → IsNext us t → number t ≡ id → cell_of t ≡ cell.Node id

@@ -8,10 +8,12 @@
 mod add;
 mod fault;
 mod held;
+mod load;
 mod node;
 mod reads;
 mod search;
 mod store;
+mod table;
 mod tally;
 
 pub use fault::StoreFault;

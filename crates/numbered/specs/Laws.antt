@@ -47,6 +47,15 @@ extends_append ts us = record { longer = grind (arith, common_steps); same = λ 
 pub extends_take : (n : ℕ) (ts : List Tree) → Extends (take n ts) ts
 extends_take n ts = record { longer = grind (arith, common_steps); same = λ i d h. grind (arith, common_steps, elements, h) }
 
+-- cut to the length of the first, the second is the first
+pub cut_back : (ts us : List Tree) → Extends ts us → take (length ts) us ≡ ts
+cut_back [] us e = refl
+cut_back (t ∷ ts) [] e = absurd (let l = e.longer in omega (arith, l))
+cut_back (t ∷ ts) (u ∷ us) e =
+    let first : u ≡ t = e.same 0 (prim key.Null) (omega arith) in
+    let rest = cut_back ts us (record { longer = let l = e.longer in omega (arith, l); same = λ i d h. e.same (suc i) d (omega (arith, h)) }) in
+    λ j. first j ∷ rest j
+
 pub of_more : (ts us : List Tree) (t : Tree) → Extends ts us → IsOf ts t → IsOf us t
 of_more ts us (prim k) e h = tt
 of_more ts us (node id kind es) e h = let l = e.longer in ((h.0.0, omega (arith, h.0.1, l)), e.same (id - 1) (prim key.Null) (omega (arith, h.0.0, h.0.1)) ∙ h.1)
