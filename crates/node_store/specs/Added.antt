@@ -28,8 +28,8 @@ use Rattle.node_store.specs.declared.held.Held.{Held}
 use Rattle.node_store.specs.declared.held.Measures.{Measures}
 use Rattle.node_store.specs.Nodes.{cell_fits, cells_fit, no_keys, ascending, is_node, key_of, rows, CellBelow, CellsBelow, cell_tree, branches, built}
 use Rattle.node_store.specs.Kept.{sums, IsPaired, tree_of, IsKept}
-use Rattle.node_store.specs.Tables.{cells_of_rows, keys_again, all_of_store}
-use Rattle.node_store.specs.Shown.{left_true, right_true, zip_keys, own_keys, sorted_alike, list_keys, rows_below}
+use Rattle.node_store.specs.Tables.{cells_of_rows, keys_again, all_of_store, zip_keys}
+use Rattle.node_store.specs.Shown.{left_true, right_true, own_keys, sorted_alike, list_keys, rows_below}
 use Rattle.node_store.specs.Sums.{keys_weight, cell_weights, cell_values, deepest_cell, cell_containers, own_weights, weight_built, own_built, values_built, depth_built, containers_built, IsLight, IsMeasured}
 
 -- the state that a node stands for, if it is added

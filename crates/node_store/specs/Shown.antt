@@ -26,7 +26,8 @@ use Rattle.node_store.specs.declared.node.Cell.TheVariants as cell
 use Rattle.node_store.specs.declared.held.Held.{Held}
 use Rattle.node_store.specs.Nodes.{key_of, rows, CellBelow, CellsBelow, cell_tree, branches, cell_of, cells_in, keys_in, keys_at, kind_of, keys_of, cells_of}
 use Rattle.node_store.specs.Kept.{sums, IsPaired, IsHeld}
-use Rattle.node_store.specs.Tables.{cells_of_rows, cells_again, keys_again}
+use Rattle.node_store.specs.Tables.{cells_of_rows, cells_again, keys_again, zip_keys}
+use Rattle.node_store.specs.Sums.{cell_values, values_built}
 
 -- ---- tests in a row
 pub left_true : (a b : Bool) → (a && b) ≡ true → a ≡ true
@@ -61,12 +62,6 @@ child_shown us h id i c k g =
     ap (λ (t : Tree). slice_get (children (branches_of t)) i) k.tree ∙ child_at_row us (rows h.kind h.keys.items h.cells.items) i c mine
 
 -- ---- the keys
-pub zip_keys : (ks : List Key) (cs : List Cell) → length ks ≡ length cs → map (λ r. r.0) (zip ks cs) ≡ ks
-zip_keys [] [] p = refl
-zip_keys [] (c ∷ cs) p = absurd (omega arith)
-zip_keys (k ∷ ks) [] p = absurd (omega arith)
-zip_keys (k ∷ ks) (c ∷ cs) p = ap (λ (js : List Key). k ∷ js) (zip_keys ks cs (omega arith))
-
 pub own_keys : (cs : List Cell) → map (λ r. r.0) (map (λ c. let e : Key × Cell = (key_of c, c) in e) cs) ≡ map key_of cs
 own_keys [] = refl
 own_keys (c ∷ cs) = ap (λ (ks : List Key). key_of c ∷ ks) (own_keys cs)
@@ -247,6 +242,43 @@ member_found k cs (Err i) s p =
     let d = cell.Prim key.Null in
     absent_from k (map key_of cs) (ap (find key_cmp k) (sym (same_pairs cs)) ∙ absent_at cell_pair k cs i d p.past p.in_range (p.above d) s)
 
+-- ---- an object's keys are texts
+abbrev pub IsText : Key → Type 0
+IsText (key.Text s) = ⊤
+IsText _ = ⊥
+
+abbrev pub AreTexts : List Key → Type 0
+AreTexts [] = ⊤
+AreTexts (k ∷ ks) = IsText k × AreTexts ks
+
+abbrev pub HasTexts : Kind → List Key → Type 0
+HasTexts kind.Obj ks = AreTexts ks
+HasTexts _ ks = ⊤
+
+texts_fit : (us : List Tree) (ks : List Key) (cs : List Cell) → length ks ≡ length cs → all_fit kind.Obj (plains (branches us (zip ks cs))) ≡ true → AreTexts ks
+texts_fit us [] cs p h = tt
+texts_fit us (k ∷ ks) [] p h = absurd (omega arith)
+texts_fit us (key.Text s ∷ ks) (c ∷ cs) p h = (tt, texts_fit us ks cs (omega arith) h)
+texts_fit us (key.Null ∷ ks) (c ∷ cs) p h = absurd (cc)
+texts_fit us (key.Bool b ∷ ks) (c ∷ cs) p h = absurd (cc)
+texts_fit us (key.Int n ∷ ks) (c ∷ cs) p h = absurd (cc)
+
+texts_built : (us : List Tree) (of : Kind) (ks : List Key) (cs : List Cell) → IsPaired of ks cs → all_fit of (plains (branches us (rows of ks cs))) ≡ true → HasTexts of ks
+texts_built us kind.Obj ks cs p h = texts_fit us ks cs p h
+texts_built us kind.List ks cs p h = tt
+texts_built us kind.Map ks cs p h = tt
+texts_built us kind.Set ks cs p h = tt
+
+texts_shown : (us : List Tree) (h : Held) (id : ℕ) → IsStore us → IsNumber us id → IsHeld us h id → HasTexts h.kind h.keys.items
+texts_shown us h id s n k =
+    let w : IsTrue (well (plain (node id h.kind (branches us (rows h.kind h.keys.items h.cells.items))))) = subst (λ t. IsTrue (well (plain t))) k.tree (well_at us id s n) in
+    texts_built us h.kind h.keys.items h.cells.items k.paired (right_true _ _ (left_true _ _ w))
+
+ascends_shown : (us : List Tree) (h : Held) (id : ℕ) → IsStore us → IsNumber us id → IsHeld us h id → IsTrue (ascends_at h.kind (list_of (plains (branches us (rows h.kind h.keys.items h.cells.items)))))
+ascends_shown us h id s n k =
+    let w : IsTrue (well (plain (node id h.kind (branches us (rows h.kind h.keys.items h.cells.items))))) = subst (λ t. IsTrue (well (plain t))) k.tree (well_at us id s n) in
+    left_true _ _ (left_true _ _ w)
+
 -- ---- all that a reading call needs to know of a held node
 pub record IsRead (us : List Tree) (h : Held) (id : ℕ) : Type 0 where
   pub kind : kind_of (tree_at us id) ≡ h.kind
@@ -264,6 +296,10 @@ pub record IsRead (us : List Tree) (h : Held) (id : ℕ) : Type 0 where
   pub values : h.values ≡ plain_value.values (plain (tree_at us id))
   pub places : h.containers ≡ containers (tree_at us id)
   pub depth : h.depth ≡ plain_value.depth (plain (tree_at us id))
+  pub value : plain (tree_at us id) ≡ plain_value.node h.kind (plains (branches us (rows h.kind h.keys.items h.cells.items)))
+  pub ascends : IsTrue (ascends_at h.kind (list_of (plains (branches us (rows h.kind h.keys.items h.cells.items)))))
+  pub texts : HasTexts h.kind h.keys.items
+  pub inside : plain_value.values (plain (tree_at us id)) ≡ 1 + cell_values us h.cells.items
   pub small_weight : plain_value.weight (plain (tree_at us id)) ≤ 2 ^ 20
   pub small_values : plain_value.values (plain (tree_at us id)) ≤ 2 ^ 20
   pub small_containers : containers (tree_at us id) ≤ 2 ^ 20
@@ -293,6 +329,10 @@ read_held us h id s n k = record {
   values = k.values;
   places = k.containers;
   depth = k.depth;
+  value = ap plain k.tree;
+  ascends = ascends_shown us h id s n k;
+  texts = texts_shown us h id s n k;
+  inside = ap plain_value.values (ap plain k.tree) ∙ values_built us h.kind h.keys.items h.cells.items k.paired;
   small_weight = (small_at us id s n).weight;
   small_values = values_at us id s n;
   small_containers = containers_at us id s n;

@@ -13,8 +13,7 @@ use Rattle.node_store.specs.declared.node.Cell.{Cell}
 use Rattle.node_store.specs.declared.held.Measures.{Measures}
 use Rattle.node_store.specs.Nodes.{cell_tree, branches, rows, key_of, built}
 use Rattle.node_store.specs.Kept.{IsPaired}
-use Rattle.node_store.specs.Tables.{cells_of_rows}
-use Rattle.node_store.specs.Shown.{zip_keys}
+use Rattle.node_store.specs.Tables.{cells_of_rows, zip_keys}
 
 abbrev pub own_weights : List Tree → List Cell → ℕ
 own_weights ts [] = 0

@@ -60,6 +60,12 @@ same_sums ts us at (c ∷ cs) e b =
     let here = ap containers (same_cell ts us c e b.0) in
     ap (λ (ns : List ℕ). at ∷ ns) (ap (λ (n : ℕ). sums us (at + n) cs) here ∙ same_sums ts us (at + containers (cell_tree ts c)) cs e b.1)
 
+pub zip_keys : (ks : List Key) (cs : List Cell) → length ks ≡ length cs → map (λ r. r.0) (zip ks cs) ≡ ks
+zip_keys [] [] p = refl
+zip_keys [] (c ∷ cs) p = absurd (omega arith)
+zip_keys (k ∷ ks) [] p = absurd (omega arith)
+zip_keys (k ∷ ks) (c ∷ cs) p = ap (λ (js : List Key). k ∷ js) (zip_keys ks cs (omega arith))
+
 pub zip_push : (ks : List Key) (cs : List Cell) (k : Key) (c : Cell) → length ks ≡ length cs → zip (ks ++ k ∷ []) (cs ++ c ∷ []) ≡ zip ks cs ++ (k, c) ∷ []
 zip_push [] [] k c p = refl
 zip_push [] (d ∷ cs) k c p = absurd (omega arith)

@@ -15,6 +15,7 @@ mod search;
 mod store;
 mod table;
 mod tally;
+mod unfold;
 
 pub use fault::StoreFault;
 pub use node::{Cell, Cells, Keys, Node, NodeId};
