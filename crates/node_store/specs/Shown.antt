@@ -281,6 +281,7 @@ ascends_shown us h id s n k =
 
 -- ---- all that a reading call needs to know of a held node
 pub record IsRead (us : List Tree) (h : Held) (id : ℕ) : Type 0 where
+  pub number : IsNumber us id
   pub kind : kind_of (tree_at us id) ≡ h.kind
   pub cells : cells_of (tree_at us id) ≡ h.cells.items
   pub keys : keys_of (tree_at us id) ≡ held_keys h.kind h.keys.items h.cells.items
@@ -314,6 +315,7 @@ all_before_shown t cs e = ap (λ (n : ℕ). before n (branches_of t)) (ap length
 
 pub read_held : (us : List Tree) (h : Held) (id : ℕ) → IsStore us → IsNumber us id → IsHeld us h id → IsRead us h id
 read_held us h id s n k = record {
+  number = n;
   kind = ap kind_of k.tree;
   cells = cells_shown us h id s k;
   keys = keys_shown us h id k;

@@ -26,7 +26,7 @@ impl Model for NodeId {
 impl NodeId {
     /// The number as that of a node; None exactly for 0.
     pub fn of(number: u64) -> Option<NodeId>
-        ensures { MatchOption result (number ≡ 0) (λ id. id ≡ number) }
+        ensures { MatchOption result (number ≡ 0) (λ id. (id ≡ number) × (1 ≤ id)) }
     {
         if number == 0 {
             None

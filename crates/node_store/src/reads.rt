@@ -22,7 +22,7 @@ struct Spot {
 impl Store {
     /// What kind of container the node is.
     pub fn kind(&self, id: NodeId) -> Kind
-        requires { IsNumber self.now id }
+        requires { id ≤ length self.now }
         ensures { result ≡ kind_of (tree_at self.now id) }
     {
         self.held(id).kind
@@ -30,7 +30,7 @@ impl Store {
 
     /// How many entries the node has.
     pub fn count(&self, id: NodeId) -> usize
-        requires { IsNumber self.now id }
+        requires { id ≤ length self.now }
         ensures { result ≡ length (cells_of (tree_at self.now id)) }
     {
         self.held(id).cells.len()
@@ -38,7 +38,7 @@ impl Store {
 
     /// The key of an entry; in a Set the member itself.
     pub fn key(&self, id: NodeId, i: usize) -> &Key
-        requires number { IsNumber self.now id }
+        requires number { id ≤ length self.now }
         requires in_range { i < length (cells_of (tree_at self.now id)) }
         requires keyed { kind_of (tree_at self.now id) ≢ kind.List }
         ensures { slice_get (keys_of (tree_at self.now id)) i ≡ Some result.now }
@@ -53,7 +53,7 @@ impl Store {
 
     /// What stands at an entry.
     pub fn cell(&self, id: NodeId, i: usize) -> &Cell
-        requires number { IsNumber self.now id }
+        requires number { id ≤ length self.now }
         requires in_range { i < length (cells_of (tree_at self.now id)) }
         ensures value { slice_get (cells_of (tree_at self.now id)) i ≡ Some result.now }
         ensures child { slice_get (children (branches_of (tree_at self.now id))) i ≡ Some (cell_tree self.now result.now) }
@@ -64,7 +64,7 @@ impl Store {
 
     /// The index of the entry with this key, or None exactly where no entry has it. In a list no entry has a key.
     pub fn find(&self, id: NodeId, key: &Key) -> Option<usize>
-        requires { IsNumber self.now id }
+        requires { id ≤ length self.now }
         ensures { MatchOption result ((i : ℕ) → slice_get (keys_of (tree_at self.now id)) i ≢ Some key.now) (λ i. slice_get (keys_of (tree_at self.now id)) i ≡ Some key.now) }
     {
         let held = self.held(id);
@@ -77,7 +77,7 @@ impl Store {
 
     /// What the node's value weighs, at most 2^20.
     pub fn weight(&self, id: NodeId) -> u64
-        requires { IsNumber self.now id }
+        requires { id ≤ length self.now }
         ensures value { result ≡ plain_value.weight (plain (tree_at self.now id)) }
         ensures small { result ≤ 2 ^ 20 }
     {
@@ -86,7 +86,7 @@ impl Store {
 
     /// How many values the node's value has, itself counted.
     pub fn values(&self, id: NodeId) -> u64
-        requires { IsNumber self.now id }
+        requires { id ≤ length self.now }
         ensures value { result ≡ plain_value.values (plain (tree_at self.now id)) }
         ensures small { result ≤ 2 ^ 20 }
     {
@@ -95,7 +95,7 @@ impl Store {
 
     /// How many containers nest in the node's value, itself counted.
     pub fn depth(&self, id: NodeId) -> u64
-        requires { IsNumber self.now id }
+        requires { id ≤ length self.now }
         ensures value { result ≡ plain_value.depth (plain (tree_at self.now id)) }
         ensures small { result ≤ 32 }
     {
@@ -104,7 +104,7 @@ impl Store {
 
     /// How many container places the node's state has, its own counted.
     pub fn containers(&self, id: NodeId) -> u64
-        requires { IsNumber self.now id }
+        requires { id ≤ length self.now }
         ensures value { result ≡ tree.containers (tree_at self.now id) }
         ensures small { result ≤ 2 ^ 20 }
     {
@@ -113,7 +113,7 @@ impl Store {
 
     /// How many container places stand in the entries before the i-th.
     pub fn before(&self, id: NodeId, i: usize) -> u64
-        requires number { IsNumber self.now id }
+        requires number { id ≤ length self.now }
         requires in_range { i < length (cells_of (tree_at self.now id)) }
         ensures { result ≡ tree.before i (branches_of (tree_at self.now id)) }
     {
@@ -122,7 +122,7 @@ impl Store {
 
     /// The entry in which the n-th of the container places below the node lies.
     pub fn entry_at(&self, id: NodeId, n: u64) -> usize
-        requires number { IsNumber self.now id }
+        requires number { id ≤ length self.now }
         requires inside { n < tree.containers_in (branches_of (tree_at self.now id)) }
         ensures in_range { result < length (cells_of (tree_at self.now id)) }
         ensures from { tree.before result (branches_of (tree_at self.now id)) ≤ n }
@@ -133,7 +133,7 @@ impl Store {
 
     /// The node of the n-th container place of a state, in pre-order: place 0 is the state itself.
     pub fn locate(&self, root: NodeId, n: u64) -> NodeId
-        requires number { IsNumber self.now root }
+        requires number { root ≤ length self.now }
         requires inside { n < tree.containers (tree_at self.now root) }
         ensures number { IsNumber self.now result }
         ensures place { tree.place n (tree_at self.now root) ≡ Some (tree_at self.now result) }
@@ -150,7 +150,7 @@ impl Store {
 
     /// The child in which the n-th of the container places below the node lies.
     fn step(&self, id: NodeId, n: u64) -> Spot
-        requires number { IsNumber self.now id }
+        requires number { id ≤ length self.now }
         requires inside { n < tree.containers_in (branches_of (tree_at self.now id)) }
         ensures number { IsNumber self.now result.id }
         ensures less { result.left ≤ n }

@@ -53,18 +53,18 @@ impl Model for Mark {
 
 impl Store {
     ghost use Rattle.std.specs.Prelude.{◌≡◌, ◌<◌, ◌≤◌, ◌^◌, [], ◌∷◌, ◌++◌, length, take, false, IfOk, OnErr};
-    ghost use Rattle.numbered.specs.Store.{IsNumber, IsStore, is_full, used as used_by};
+    ghost use Rattle.numbered.specs.Store.{IsStore, is_full, used as used_by};
     ghost use Rattle.node_store.specs.Kept.{IsKept, tree_of};
     ghost use Rattle.node_store.specs.Shown.{IsRead};
 
     /// A store without nodes.
-    pub fn new(alloc: Global) -> Store
-        ensures { result ≡ [] }
+    pub fn new(alloc: Global) -> Result<Store, AllocError>
+        ensures { IfOk result (λ s. s ≡ []) }
     {
-        Store {
+        Ok(Store {
             nodes: Vec::new(alloc),
             used: 0,
-        }
+        })
     }
 
     /// How many nodes there are: the highest number that was given, at most 2^21 - 1.
@@ -116,7 +116,7 @@ impl Store {
 
     /// What is held of a node.
     pub(crate) fn held(&self, id: NodeId) -> &Held
-        requires { IsNumber self.now id }
+        requires { id ≤ length self.now }
         ensures held { IsRead self.now result.now id }
         ensures store { IsStore self.now }
     {

@@ -1,7 +1,7 @@
 //! Unfolding a node into its plain value.
-ghost use Rattle.std.specs.Prelude.{◌≡◌, length, map, IfOk, IsTrue};
+ghost use Rattle.std.specs.Prelude.{◌≡◌, ◌≤◌, length, map, IfOk, IsTrue};
 ghost use Rattle.std.specs.List.{zip};
-ghost use Rattle.numbered.specs.Store.{IsNumber, tree_at};
+ghost use Rattle.numbered.specs.Store.{tree_at};
 ghost use Rattle.numbered.specs.Tree.{plain, plains};
 ghost use Rattle.values.specs.Seen.{of_field, of_entry};
 ghost use Rattle.node_store.specs.Nodes.{key_of, cell_tree, CellBelow, CellsBelow};
@@ -19,7 +19,7 @@ use values::{Entry, Field, Val};
 impl Store {
     /// The plain value that a node stands for.
     pub fn unfold(&self, alloc: Global, id: NodeId) -> Result<Val, AllocError>
-        requires { IsNumber self.now id }
+        requires { id ≤ length self.now }
         ensures { IfOk result (λ v. v ≡ plain (tree_at self.now id)) }
     {
         unfold_node(self, alloc, id)
@@ -28,7 +28,7 @@ impl Store {
 
 #[cycle(unfold)]
 fn unfold_node(store: &Store, alloc: Global, id: NodeId) -> Result<Val, AllocError>
-    requires { IsNumber store.now id }
+    requires { id ≤ length store.now }
     ensures { IfOk result (λ v. v ≡ plain (tree_at store.now id)) }
 {
     let held = store.held(id);

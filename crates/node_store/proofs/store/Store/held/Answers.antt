@@ -15,7 +15,7 @@ index-requires c =
 pub returns-clause-held : goal.returns-clause-held
 returns-clause-held c =
     let hs = c.self.inside.nodes.items in
-    let given : IsNumber (news [] hs) c.args.id = rw c.self.view_is c.requires in
+    let given : IsNumber (news [] hs) c.args.id = rw c.self.view_is (c.get.ensures.from_one, c.requires) in
     let there = read_held (news [] hs) (get_or hs (c.args.id - 1) c.index.result.now) c.args.id (is_store hs c.self.invariant.sound) given (held_at hs c.args.id c.index.result.now c.self.invariant.sound given) in
     rw (← c.self.view_is, c.index.ensures, c.get.ensures.value) there
 
