@@ -132,8 +132,8 @@ loading_step ts all us vs rs k v rest c l d =
       store = rest_store us vs k v rest d.store ∙ l.store;
       room = rest_room us vs k v rest d.store d.room ∙ l.room;
       same = branches_push vs rs (k, c) (numbered_in (length vs + 1) rest)
-        ∙ (λ i. joined (old i) (branch k (d.same i) (numbered_in (long i) rest)))
-        ∙ l.same;
+          ∙ (λ i. joined (old i) (branch k (d.same i) (numbered_in (long i) rest)))
+          ∙ l.same;
       within = l.within.1;
     }
 
@@ -143,9 +143,10 @@ true_or a b h = rw h refl
 -- a refusal in the first entry is one of the whole
 pub loading_refused : (ts : List Tree) (all : Entries) (us vs : List Tree) (rs : List (Key × Cell)) (k : Key) (v : Plain) (rest : Entries) (e : StoreFault) → IsLoading ts all us rs (plain_value.entry k v rest) → Refused us vs (load_full us v) e → Refused ts vs (full_in ts all) e
 loading_refused ts all us vs rs k v rest e l r =
-    let n = length us + 1 in
-    (extends_then ts us vs l.extends r.0,
-     λ f. sym l.room ∙ full_append us (post_order (numbered n v)) (post_orders (numbered_in (n + places v) rest)) ∙ true_or (load_full us v) (any_full (loaded us v) (post_orders (numbered_in (n + places v) rest))) (r.1 f))
+    let n = length us + 1 in (
+      extends_then ts us vs l.extends r.0,
+      λ f. sym l.room ∙ full_append us (post_order (numbered n v)) (post_orders (numbered_in (n + places v) rest)) ∙ true_or (load_full us v) (any_full (loaded us v) (post_orders (numbered_in (n + places v) rest))) (r.1 f),
+    )
 
 -- ---- all entries were loaded
 pub record AreLoaded (ts : List Tree) (es : Entries) (us : List Tree) (rs : List (Key × Cell)) : Type 0 where
@@ -314,17 +315,18 @@ right_false false b h = h
 
 all_within_from : (of : Kind) (es : Entries) → nat_lt 32 (plain_value.deepest es) ≡ false → nat_lt (2 ^ 20) (plain_value.weights of es) ≡ false → any_long_key es ≡ false → any_reserved_key of es ≡ false → AllWithin es
 all_within_from of plain_value.none a b c d = tt
-all_within_from of (plain_value.entry k v es) a b c d =
-    (limit_from v
+all_within_from of (plain_value.entry k v es) a b c d = (
+  limit_from v
       (grind (arith, a))
       (grind (arith, b))
       (right_false (is_long_key k) (has_long_key v) (left_false (is_long_key k || has_long_key v) (any_long_key es) c))
       (right_false (is_reserved_at of k) (has_reserved_key v) (left_false (is_reserved_at of k || has_reserved_key v) (any_reserved_key of es) d)),
-     all_within_from of es
+  all_within_from of es
       (grind (arith, a))
       (grind (arith, b))
       (right_false (is_long_key k || has_long_key v) (any_long_key es) c)
-      (right_false (is_reserved_at of k || has_reserved_key v) (any_reserved_key of es) d))
+      (right_false (is_reserved_at of k || has_reserved_key v) (any_reserved_key of es) d),
+)
 
 -- what is in an accepted container is within the limits
 pub all_within : (of : Kind) (es : Entries) → value_limit (plain_value.node of es) ≡ None → AllWithin es

@@ -16,6 +16,7 @@ use std::alloc::{AllocError, Global};
 use value_model::{Key, Kind};
 
 const MOST_NODES: u64 = 2097151;
+
 const MOST_USED: u64 = 33554432;
 
 impl Store {

@@ -26,10 +26,10 @@ impl Model for Store {
     ghost view = { λ s. news [] s.nodes.items };
 
     ghost invariant = { λ s. record {
-        sound : Sound [] s.nodes.items;
-        used : s.used ≡ used_by (news [] s.nodes.items);
-        few : length s.nodes.items ≤ 2097151;
-        light : s.used ≤ 2 ^ 25;
+      sound : Sound [] s.nodes.items;
+      used : s.used ≡ used_by (news [] s.nodes.items);
+      few : length s.nodes.items ≤ 2097151;
+      light : s.used ≤ 2 ^ 25;
     } };
 }
 

@@ -62,7 +62,12 @@ fn unfold_cell(store: &Store, alloc: Global, cell: &Cell) -> Result<Val, AllocEr
 }
 
 #[cycle(unfold)]
-fn unfold_fields(store: &Store, alloc: Global, keys: &[Key], cells: &[Cell]) -> Result<Vec<Field>, AllocError>
+fn unfold_fields(
+    store: &Store,
+    alloc: Global,
+    keys: &[Key],
+    cells: &[Cell],
+) -> Result<Vec<Field>, AllocError>
     requires below { CellsBelow store.now cells.now }
     requires paired { length keys.now ≡ length cells.now }
     requires texts { AreTexts keys.now }
@@ -78,7 +83,12 @@ fn unfold_fields(store: &Store, alloc: Global, keys: &[Key], cells: &[Cell]) -> 
 }
 
 #[cycle(unfold)]
-fn unfold_entries(store: &Store, alloc: Global, keys: &[Key], cells: &[Cell]) -> Result<Vec<Entry>, AllocError>
+fn unfold_entries(
+    store: &Store,
+    alloc: Global,
+    keys: &[Key],
+    cells: &[Cell],
+) -> Result<Vec<Entry>, AllocError>
     requires below { CellsBelow store.now cells.now }
     requires paired { length keys.now ≡ length cells.now }
     ensures { IfOk result (λ v. map of_entry v.items ≡ map (shown store.now) (zip keys.now cells.now)) }
