@@ -8,6 +8,7 @@
 mod add;
 mod fault;
 mod held;
+mod laws;
 mod load;
 mod node;
 mod reads;
@@ -18,6 +19,7 @@ mod tally;
 mod unfold;
 
 pub use fault::StoreFault;
+pub use laws::{law_load_full, law_loading, law_numbered_states, law_states_are_nodes};
 pub use node::{Cell, Cells, Keys, Node, NodeId};
 pub use store::{Mark, Store};
 pub use value_model::Kind;

@@ -1,7 +1,8 @@
 -- What holds of stores and of numbered states.
-use Rattle.std.proofs.Common.{◌≡◌, ◌≢◌, ℕ, zero, suc, ◌+◌, ◌-◌, ◌<◌, ◌≤◌, List, [], ◌∷◌, ◌++◌, length, get_or, take, drop, refl, ap, sym, ◌∙◌, subst, arith, true, false, max}
+use Rattle.std.proofs.Common.{◌≡◌, ◌≢◌, ℕ, zero, suc, ◌+◌, ◌-◌, ◌<◌, ◌≤◌, List, [], ◌∷◌, ◌++◌, length, get_or, map, take, drop, refl, ap, sym, ◌∙◌, subst, arith, true, false, max}
 use Rattle.std.specs.Prelude.{Option, Some, None, nat_lt, Bool, ◌||◌, ◌^◌, slice_get, IsTrue}
-use Rattle.std.proofs.lemmas.List.{append-nil, append_assoc}
+use Rattle.std.specs.List.{range_with_len}
+use Rattle.std.proofs.lemmas.List.{append-nil, append_assoc, map-append}
 use Rattle.std.proofs.lemmas.Grind.{common_steps, elements}
 use Rattle.value_model.specs.declared.key.Key.{Key}
 use Rattle.value_model.specs.declared.key.Key.TheVariants as key
@@ -213,6 +214,33 @@ mutual
   all_containers_plain none = refl
   all_containers_plain (branch k v es) = omega (arith, containers_plain v, all_containers_plain es)
 
+-- read in post-order, the numbers follow one another
+range_append : (a m n : ℕ) → range_with_len a (m + n) ≡ range_with_len a m ++ range_with_len (a + m) n
+range_append a zero n = let z : 0 + n ≡ n = omega arith in let y : a + 0 ≡ a = omega arith in rw (z, y) refl
+range_append a (suc m) n =
+    let s : suc m + n ≡ suc (m + n) = omega arith in
+    let t : a + suc m ≡ a + 1 + m = omega arith in
+    rw (s, t) (ap (λ (ns : List ℕ). a ∷ ns) (range_append (a + 1) m n))
+
+mutual
+  pub numbers_follow : (next : ℕ) (v : Plain) → map number (post_order (numbered next v)) ≡ range_with_len next (places v)
+  numbers_follow next (plain_value.prim k) = refl
+  numbers_follow next (plain_value.node kind es) =
+      let n : 1 + places_in es ≡ places_in es + 1 = omega arith in
+      map-append number (post_orders (numbered_in next es)) (numbered next (plain_value.node kind es) ∷ [])
+      ∙ ap (λ (ns : List ℕ). ns ++ (next + places_in es) ∷ []) (all_numbers_follow next es)
+      ∙ sym (range_append next (places_in es) 1)
+      ∙ ap (range_with_len next) (sym n)
+
+  pub all_numbers_follow : (next : ℕ) (es : Entries) → map number (post_orders (numbered_in next es)) ≡ range_with_len next (places_in es)
+  all_numbers_follow next plain_value.none = refl
+  all_numbers_follow next (plain_value.entry k v es) =
+      let a = numbers_follow next v in
+      let b = all_numbers_follow (next + places v) es in
+      map-append number (post_order (numbered next v)) (post_orders (numbered_in (next + places v) es))
+      ∙ (λ i. a i ++ b i)
+      ∙ sym (range_append next (places v) (places_in es))
+
 mutual
   pub length_post : (t : Tree) → length (post_order t) ≡ containers t
   length_post (prim k) = refl
@@ -266,6 +294,12 @@ mutual
   pub used_posts : (kind : Kind) (es : Branches) → used (post_orders es) + child_weights kind es ≡ weights kind (plains es) + containers_in es
   used_posts kind none = omega arith
   used_posts kind (branch k v es) = omega (arith, used_append (post_order v) (post_orders es), used_post v, used_posts kind es)
+
+-- what loading a container weighs: 1 more for each place in it
+pub used_loaded : (next : ℕ) (kind : Kind) (es : Entries) → used (post_order (numbered next (plain_value.node kind es))) + 1 ≡ weight (plain_value.node kind es) + places (plain_value.node kind es)
+used_loaded next kind es =
+    let t = numbered next (plain_value.node kind es) in
+    used_post t ∙ (λ i. weight (plain_numbered next (plain_value.node kind es) i) + containers_numbered next (plain_value.node kind es) i)
 
 -- ---- additions made in turn
 or_true : (b : Bool) → (b || true) ≡ true
@@ -363,3 +397,10 @@ containers_at ts id s h =
     let l = places_le_values (plain (tree_at ts id)) in
     let c = containers_plain (tree_at ts id) in
     omega (arith, v, l, c)
+
+-- loading is refused exactly where its additions together are too many or too heavy
+pub load_full_together : (ts : List Tree) (v : Plain) → length ts ≤ 2097151 → used ts ≤ 2 ^ 25 → load_full ts v ≡ nat_lt 2097151 (length ts + places v) || nat_lt (2 ^ 25) (used ts + used (additions ts v))
+load_full_together ts v a b =
+    let n = length ts + 1 in
+    full_together ts (additions ts v) a b
+    ∙ ap (λ (m : ℕ). nat_lt 2097151 (length ts + m) || nat_lt (2 ^ 25) (used ts + used (additions ts v))) (length_post (numbered n v) ∙ containers_numbered n v)
