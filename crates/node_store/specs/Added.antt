@@ -1,6 +1,6 @@
 -- The state that a node stands for, and that what is held of it is right.
-use Rattle.std.proofs.Common.{◌≡◌, ℕ, zero, suc, ◌+◌, ◌-◌, ◌^◌, ◌<◌, ◌≤◌, List, [], ◌∷◌, ◌++◌, length, map, refl, ap, sym, ◌∙◌, subst, arith, true, false}
-use Rattle.std.specs.Prelude.{Bool, ◌&&◌, IsTrue, None, ⊤}
+use Rattle.std.proofs.Common.{◌≡◌, ℕ, suc, ◌+◌, ◌≤◌, List, [], ◌∷◌, length, map, refl, ap, sym, ◌∙◌, subst, arith, true}
+use Rattle.std.specs.Prelude.{Bool, ◌&&◌, None}
 use Rattle.std.specs.List.{zip}
 use Rattle.std.specs.Ordering.{is_eq}
 use Rattle.std.proofs.Common.{Less, Equal, Greater}
@@ -13,23 +13,22 @@ use Rattle.value_model.specs.declared.words.Kind.{Kind}
 use Rattle.value_model.specs.declared.words.Kind.TheVariants as kind
 use Rattle.value_model.specs.Limits.{state_limit}
 use Rattle.value_model.specs.Order.{key_cmp, key_total, key_exact}
-use Rattle.value_model.specs.Places.{ascends_at}
 use Rattle.value_model.specs.Plain as plain_value
 use Rattle.value_model.specs.Plain.{list_of}
-use Rattle.value_model.specs.Well.{fits, all_fit, all_well, well}
+use Rattle.value_model.specs.Well.{all_fit, all_well, well}
 use Rattle.numbered.specs.Tree as tree
 use Rattle.numbered.specs.Tree.{Tree, prim, node, plain, plains, own_weight}
-use Rattle.numbered.specs.Store.{IsNumber, tree_at, used, IsNext, IsStore}
+use Rattle.numbered.specs.Store.{tree_at, used, IsNext, IsStore}
 use Rattle.numbered.specs.Laws.{well_at, small_state, child_at, some_value, values_le_weight, places_le_values, containers_plain}
 use Rattle.node_store.specs.declared.node.Cell.{Cell}
 use Rattle.node_store.specs.declared.node.Cell.TheVariants as cell
 use Rattle.node_store.specs.declared.node.Node.{Node}
 use Rattle.node_store.specs.declared.held.Held.{Held}
 use Rattle.node_store.specs.declared.held.Measures.{Measures}
-use Rattle.node_store.specs.Nodes.{cell_fits, cells_fit, no_keys, ascending, is_node, key_of, rows, CellBelow, CellsBelow, cell_tree, branches, built}
+use Rattle.node_store.specs.Nodes.{cells_fit, no_keys, ascending, is_node, key_of, rows, CellBelow, CellsBelow, cell_tree, branches, built}
 use Rattle.node_store.specs.Kept.{sums, IsPaired, tree_of, IsKept}
 use Rattle.node_store.specs.Tables.{cells_of_rows, keys_again, all_of_store, zip_keys}
-use Rattle.node_store.specs.Shown.{left_true, right_true, own_keys, sorted_alike, list_keys, rows_below}
+use Rattle.node_store.specs.Shown.{left_true, right_true, own_keys, sorted_alike, list_keys}
 use Rattle.node_store.specs.Sums.{keys_weight, cell_weights, cell_values, deepest_cell, cell_containers, own_weights, weight_built, own_built, values_built, depth_built, containers_built, IsLight, IsMeasured}
 
 -- the state that a node stands for, if it is added

@@ -1,6 +1,5 @@
 -- A store's state is the one that its node stands for.
-use Rattle.std.proofs.Common.{◌≡◌, ℕ, ◌+◌, ◌-◌, List, [], ◌∷◌, map, take, refl, ap, sym, ◌∙◌, subst, true, Less, Equal, Greater}
-use Rattle.std.specs.Prelude.{Bool, ◌&&◌}
+use Rattle.std.proofs.Common.{◌≡◌, ℕ, ◌-◌, List, [], take, refl, sym, true, Less, Equal, Greater}
 use Rattle.std.specs.List.{zip}
 use Rattle.std.specs.Ordering.{is_eq}
 use Rattle.std.specs.declared.cmp.Ordering.{Ordering}
@@ -8,14 +7,12 @@ use Rattle.value_model.specs.declared.key.Key.{Key}
 use Rattle.value_model.specs.declared.key.Key.TheVariants as key
 use Rattle.value_model.specs.declared.words.Kind.{Kind}
 use Rattle.value_model.specs.declared.words.Kind.TheVariants as kind
-use Rattle.value_model.specs.Order.{key_cmp, key_exact}
-use Rattle.value_model.specs.Well.{fits, all_fit}
-use Rattle.numbered.specs.Tree.{Tree, Branches, prim, node, none, branch, plain, plains}
+use Rattle.value_model.specs.Order.{key_exact}
+use Rattle.value_model.specs.Well.{all_fit}
+use Rattle.numbered.specs.Tree.{Tree, Branches, prim, node, none, branch, plains}
 use Rattle.numbered.specs.Store.{IsNumber, tree_at, IsNext, IsStore, IsOf, AllOf}
 use Rattle.numbered.specs.Laws.{state_at}
-use Rattle.node_store.specs.declared.node.Cell.{Cell}
-use Rattle.node_store.specs.declared.node.Cell.TheVariants as cell
-use Rattle.node_store.specs.Nodes.{key_of, rows, cell_tree, branches, built, kind_of, keys_in, keys_at, keys_of, cell_of, cells_in, cells_of}
+use Rattle.node_store.specs.Nodes.{rows, cell_tree, branches, built, kind_of, keys_in, keys_at, keys_of, cell_of, cells_in, cells_of}
 use Rattle.node_store.specs.Shown.{left_true, right_true}
 
 cell_back : (us : List Tree) (t : Tree) → IsOf us t → cell_tree us (cell_of t) ≡ t

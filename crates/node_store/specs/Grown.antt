@@ -1,17 +1,15 @@
 -- The states of the nodes that are held.
-use Rattle.std.proofs.Common.{◌≡◌, ℕ, zero, suc, ◌+◌, ◌-◌, ◌<◌, ◌≤◌, List, [], ◌∷◌, ◌++◌, length, get_or, map, take, refl, ap, sym, ◌∙◌, subst, arith}
+use Rattle.std.proofs.Common.{◌≡◌, ℕ, zero, suc, ◌+◌, ◌-◌, ◌<◌, ◌≤◌, List, [], ◌∷◌, ◌++◌, length, get_or, take, refl, ap, sym, ◌∙◌, subst, arith}
 use Rattle.std.proofs.lemmas.List.{append-nil, append_assoc}
-use Rattle.std.proofs.lemmas.Grind.{common_steps, elements}
-use Rattle.value_model.specs.declared.key.Key.{Key}
+use Rattle.std.proofs.lemmas.Grind.{common_steps}
 use Rattle.value_model.specs.declared.key.Key.TheVariants as key
 use Rattle.value_model.specs.Plain as plain_value
-use Rattle.numbered.specs.Tree.{Tree, Branches, prim, node, none, branch, plain, containers, own_weight}
-use Rattle.numbered.specs.Store.{IsNumber, tree_at, used, IsNext, AreNext, IsStore}
+use Rattle.numbered.specs.Tree.{Tree, prim, node, plain, containers, own_weight}
+use Rattle.numbered.specs.Store.{IsNumber, tree_at, used, AreNext, IsStore}
 use Rattle.numbered.specs.Laws.{Extends, extends_take, used_append}
-use Rattle.node_store.specs.declared.node.Cell.{Cell}
 use Rattle.node_store.specs.declared.held.Held.{Held}
-use Rattle.node_store.specs.Nodes.{rows, CellsBelow, branches, built}
-use Rattle.node_store.specs.Kept.{sums, IsPaired, tree_of, IsKept, news, Sound, IsHeld}
+use Rattle.node_store.specs.Nodes.{rows, CellsBelow}
+use Rattle.node_store.specs.Kept.{tree_of, IsKept, news, Sound, IsHeld}
 use Rattle.node_store.specs.Tables.{same_branches, same_sums, cells_more, cells_of_rows}
 
 pub length_news : (ts : List Tree) (hs : List Held) → length (news ts hs) ≡ length hs

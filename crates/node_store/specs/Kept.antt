@@ -4,8 +4,8 @@ use Rattle.value_model.specs.declared.key.Key.{Key}
 use Rattle.value_model.specs.declared.words.Kind.{Kind}
 use Rattle.value_model.specs.declared.words.Kind.TheVariants as kind
 use Rattle.value_model.specs.Plain as plain_value
-use Rattle.numbered.specs.Tree.{Tree, Branches, prim, node, plain, containers, own_weight}
-use Rattle.numbered.specs.Store.{IsNumber, tree_at, used, IsNext}
+use Rattle.numbered.specs.Tree.{Tree, node, plain, containers, own_weight}
+use Rattle.numbered.specs.Store.{tree_at, used, IsNext}
 use Rattle.node_store.specs.declared.node.Cell.{Cell}
 use Rattle.node_store.specs.declared.held.Held.{Held}
 use Rattle.node_store.specs.Nodes.{CellsBelow, cell_tree, branches, rows, built}

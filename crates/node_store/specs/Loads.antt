@@ -1,35 +1,32 @@
 -- Loading, step by step: what was loaded, and what the rest will add.
-use Rattle.std.proofs.Common.{◌≡◌, ◌≢◌, ℕ, zero, suc, ◌+◌, ◌-◌, ◌^◌, ◌<◌, ◌≤◌, List, [], ◌∷◌, ◌++◌, length, map, max, get_or, take, drop, refl, ap, sym, ◌∙◌, subst, arith, true, false, length-append}
-use Rattle.std.specs.Prelude.{Bool, ◌&&◌, ◌||◌, IsTrue, None, Some, Option, ⊤, nat_lt, Result, Ok, Err, MatchResult}
+use Rattle.std.proofs.Common.{◌≡◌, ℕ, zero, suc, ◌+◌, ◌-◌, ◌^◌, ◌<◌, ◌≤◌, List, [], ◌∷◌, ◌++◌, length, map, get_or, drop, refl, ap, sym, ◌∙◌, subst, arith, true, false, length-append}
+use Rattle.std.specs.Prelude.{Bool, ◌&&◌, ◌||◌, None, Some, ⊤, nat_lt, Result, Ok, Err, MatchResult}
 use Rattle.std.specs.List.{zip}
 use Rattle.std.proofs.lemmas.List.{append_assoc, append-nil}
-use Rattle.std.proofs.lemmas.Grind.{common_steps}
 use Rattle.std.proofs.lemmas.Cmp.{tied_itself}
-use Rattle.std.specs.Ordering.{is_eq}
 use Rattle.std.specs.FinMap.Entries.{is_sorted}
 use Rattle.value_model.specs.declared.key.Key.{Key}
 use Rattle.value_model.specs.declared.key.Key.TheVariants as key
 use Rattle.value_model.specs.declared.words.Kind.{Kind}
 use Rattle.value_model.specs.declared.words.Kind.TheVariants as kind
-use Rattle.value_model.specs.declared.words.Limit.{Limit}
 use Rattle.value_model.specs.declared.words.Limit.TheVariants as limit
 use Rattle.value_model.specs.Limits.{value_limit, state_limit, has_long_key, any_long_key, has_reserved_key, any_reserved_key, is_long_key, is_reserved_at}
 use Rattle.value_model.specs.Order.{key_cmp, key_total}
 use Rattle.value_model.specs.Plain as plain_value
 use Rattle.value_model.specs.Plain.{Plain, Entries, list_of, entries}
-use Rattle.value_model.specs.Well.{fits, all_fit}
+use Rattle.value_model.specs.Well.{all_fit}
 use Rattle.numbered.specs.Tree.{Tree, Branches, prim, node, none, branch, plain, plains}
-use Rattle.numbered.specs.Store.{IsNumber, tree_at, IsStore, is_full}
-use Rattle.numbered.specs.Loading.{places, places_in, numbered, numbered_in, post_order, post_orders, additions, loaded, any_full, load_full}
+use Rattle.numbered.specs.Store.{tree_at, is_full}
+use Rattle.numbered.specs.Loading.{places, places_in, numbered, numbered_in, post_order, post_orders, loaded, any_full, load_full}
 use Rattle.numbered.specs.Laws.{Extends, extends_refl, extends_then, extends_append, plain_numbered, plains_numbered, containers_numbered, all_containers_numbered, length_post, length_posts, full_append}
 use Rattle.node_store.specs.declared.fault.StoreFault.{StoreFault}
 use Rattle.node_store.specs.declared.fault.StoreFault.TheVariants.{Full, Memory}
 use Rattle.node_store.specs.declared.node.Cell.{Cell}
 use Rattle.node_store.specs.declared.node.Node.{Node}
 use Rattle.node_store.specs.declared.node.Cell.TheVariants as cell
-use Rattle.node_store.specs.Nodes.{cell_fits, cells_fit, ascending, is_node, key_of, rows, CellBelow, CellsBelow, cell_tree, branches, built, keys_in}
-use Rattle.node_store.specs.Tables.{same_cell, cell_more, cells_more, same_branches, keys_again}
-use Rattle.node_store.specs.Shown.{left_true, right_true, sorted_alike, list_keys}
+use Rattle.node_store.specs.Nodes.{cells_fit, ascending, is_node, rows, CellBelow, CellsBelow, cell_tree, branches, built}
+use Rattle.node_store.specs.Tables.{cells_more, same_branches, keys_again}
+use Rattle.node_store.specs.Shown.{sorted_alike, list_keys}
 
 -- the cell stands for a node
 abbrev pub IsNode : Cell → Type 0

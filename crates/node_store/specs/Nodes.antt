@@ -1,5 +1,5 @@
 -- Nodes: containers whose children are named by number.
-use Rattle.std.specs.Prelude.{ℕ, ◌+◌, Bool, true, false, ◌&&◌, List, [], ◌∷◌, map, length, ⊤}
+use Rattle.std.specs.Prelude.{◌+◌, Bool, true, false, ◌&&◌, List, [], ◌∷◌, map, length, ⊤}
 use Rattle.std.specs.List.{zip}
 use Rattle.std.specs.Ordering.{is_eq}
 use Rattle.std.specs.FinMap.Entries.{is_sorted}

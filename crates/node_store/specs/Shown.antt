@@ -1,11 +1,10 @@
 -- What a held node tells of its state.
-use Rattle.std.proofs.Common.{◌≡◌, ◌≢◌, ℕ, zero, suc, ◌+◌, ◌-◌, ◌^◌, ◌<◌, ◌≤◌, List, [], ◌∷◌, length, get_or, map, take, refl, ap, sym, ◌∙◌, subst, arith, true, false, Equal}
-use Rattle.std.specs.Prelude.{Option, Some, None, IsTrue, Bool, ◌&&◌, slice_get, ⊤, Result, Ok, Err, MatchOption, option_map}
+use Rattle.std.proofs.Common.{◌≡◌, ◌≢◌, ℕ, zero, suc, ◌+◌, ◌-◌, ◌^◌, ◌<◌, ◌≤◌, List, [], ◌∷◌, length, get_or, map, take, refl, ap, sym, ◌∙◌, subst, arith, true, false}
+use Rattle.std.specs.Prelude.{Some, None, IsTrue, Bool, ◌&&◌, slice_get, ⊤, Result, Ok, Err, MatchOption, option_map}
 use Rattle.std.specs.Result.{result_ok}
 use Rattle.std.specs.Ordering.{is_eq, eq_by_cmp}
 use Rattle.std.specs.List.{zip}
 use Rattle.std.specs.FinMap.Entries.{find, is_sorted, below_all}
-use Rattle.std.specs.List.Sorted.{IsSearchInRange, IsBinarySearchResult}
 use Rattle.std.proofs.lemmas.Option.{slice_get-get_or, slice_get-map}
 use Rattle.std.proofs.lemmas.Cmp.{tied_itself}
 use Rattle.value_model.specs.declared.key.Key.{Key}
@@ -16,15 +15,15 @@ use Rattle.value_model.specs.Order.{key_cmp, key_total, key_exact}
 use Rattle.value_model.specs.Places.{ascends_at}
 use Rattle.value_model.specs.Plain as plain_value
 use Rattle.value_model.specs.Plain.{Plain, Entries, list_of}
-use Rattle.value_model.specs.Search.{IsPlace, searched, absent_at}
-use Rattle.value_model.specs.Well.{fits, all_fit, all_well, well}
+use Rattle.value_model.specs.Search.{IsPlace, absent_at}
+use Rattle.value_model.specs.Well.{fits, all_fit, well}
 use Rattle.numbered.specs.Tree.{Tree, Branches, prim, node, none, branch, plain, plains, containers, containers_in, branches_of, children, before}
 use Rattle.numbered.specs.Store.{IsNumber, tree_at, IsNext, IsStore}
 use Rattle.numbered.specs.Laws.{before_all, well_at, state_at, small_at, values_at, containers_at}
 use Rattle.node_store.specs.declared.node.Cell.{Cell}
 use Rattle.node_store.specs.declared.node.Cell.TheVariants as cell
 use Rattle.node_store.specs.declared.held.Held.{Held}
-use Rattle.node_store.specs.Nodes.{key_of, rows, CellBelow, CellsBelow, cell_tree, branches, cell_of, cells_in, keys_in, keys_at, kind_of, keys_of, cells_of}
+use Rattle.node_store.specs.Nodes.{key_of, rows, CellBelow, CellsBelow, cell_tree, branches, cells_in, keys_in, keys_at, kind_of, keys_of, cells_of}
 use Rattle.node_store.specs.Kept.{sums, IsPaired, IsHeld}
 use Rattle.node_store.specs.Tables.{cells_of_rows, cells_again, keys_again, zip_keys}
 use Rattle.node_store.specs.Sums.{cell_values, values_built}

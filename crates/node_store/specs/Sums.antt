@@ -1,8 +1,6 @@
 -- What the cells of a table measure together.
-use Rattle.std.proofs.Common.{◌≡◌, ℕ, ◌+◌, ◌^◌, ◌≤◌, List, [], ◌∷◌, map, max, refl, ap, sym, ◌∙◌, arith, length}
-use Rattle.std.specs.List.{zip}
+use Rattle.std.proofs.Common.{◌≡◌, ℕ, ◌+◌, ◌^◌, ◌≤◌, List, [], ◌∷◌, map, max, refl, ap, ◌∙◌, arith}
 use Rattle.value_model.specs.declared.key.Key.{Key}
-use Rattle.value_model.specs.declared.key.Key.TheVariants as key
 use Rattle.value_model.specs.declared.words.Kind.{Kind}
 use Rattle.value_model.specs.declared.words.Kind.TheVariants as kind
 use Rattle.value_model.specs.Plain as plain_value
@@ -11,7 +9,7 @@ use Rattle.numbered.specs.Tree as tree
 use Rattle.numbered.specs.Tree.{Tree, node, plain, plains, child_weight, child_weights, own_weight}
 use Rattle.node_store.specs.declared.node.Cell.{Cell}
 use Rattle.node_store.specs.declared.held.Measures.{Measures}
-use Rattle.node_store.specs.Nodes.{cell_tree, branches, rows, key_of, built}
+use Rattle.node_store.specs.Nodes.{cell_tree, branches, rows, built}
 use Rattle.node_store.specs.Kept.{IsPaired}
 use Rattle.node_store.specs.Tables.{cells_of_rows, zip_keys}
 

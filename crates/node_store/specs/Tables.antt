@@ -1,16 +1,16 @@
 -- Tables of a store that grew, and what a state's node shows of its table.
-use Rattle.std.proofs.Common.{◌≡◌, ℕ, zero, suc, ◌+◌, ◌-◌, ◌<◌, ◌≤◌, List, [], ◌∷◌, ◌++◌, length, get_or, map, take, refl, ap, sym, ◌∙◌, subst, arith}
+use Rattle.std.proofs.Common.{◌≡◌, ℕ, ◌+◌, ◌-◌, List, [], ◌∷◌, ◌++◌, length, map, take, refl, ap, ◌∙◌, arith}
 use Rattle.std.specs.List.{zip}
 use Rattle.value_model.specs.declared.key.Key.{Key}
 use Rattle.value_model.specs.declared.key.Key.TheVariants as key
 use Rattle.value_model.specs.declared.words.Kind.{Kind}
 use Rattle.value_model.specs.declared.words.Kind.TheVariants as kind
-use Rattle.numbered.specs.Tree.{Tree, Branches, prim, node, none, branch, containers, number}
-use Rattle.numbered.specs.Store.{IsNumber, tree_at, IsNext, IsStore, IsOf, AllOf}
+use Rattle.numbered.specs.Tree.{Tree, prim, node, branch, containers, number}
+use Rattle.numbered.specs.Store.{tree_at, IsNext, IsStore, IsOf, AllOf}
 use Rattle.numbered.specs.Laws.{Extends, state_at, number_at, of_number}
 use Rattle.node_store.specs.declared.node.Cell.{Cell}
 use Rattle.node_store.specs.declared.node.Cell.TheVariants as cell
-use Rattle.node_store.specs.Nodes.{key_of, rows, CellBelow, CellsBelow, cell_tree, branches, cell_of, cells_in, keys_in, keys_at}
+use Rattle.node_store.specs.Nodes.{key_of, rows, CellBelow, CellsBelow, cell_tree, branches, cell_of, cells_in, keys_in}
 use Rattle.node_store.specs.Kept.{sums, IsPaired}
 
 -- ---- a store that grew

@@ -1,6 +1,6 @@
 -- What is shown of a table's entries, as values.
-use Rattle.std.proofs.Common.{◌≡◌, ℕ, ◌+◌, ◌≤◌, List, [], ◌∷◌, ◌++◌, length, map, refl, ap, sym, ◌∙◌, subst, arith, true}
-use Rattle.std.specs.Prelude.{IsTrue, ⊤}
+use Rattle.std.proofs.Common.{◌≡◌, List, [], ◌∷◌, map, refl, ap, sym, ◌∙◌, subst}
+use Rattle.std.specs.Prelude.{IsTrue}
 use Rattle.std.specs.List.{zip}
 use Rattle.value_model.specs.declared.key.Key.{Key}
 use Rattle.value_model.specs.declared.key.Key.TheVariants as key
@@ -16,7 +16,7 @@ use Rattle.numbered.specs.Tree.{Tree, plain, plains}
 use Rattle.node_store.specs.declared.node.Cell.{Cell}
 use Rattle.node_store.specs.declared.node.Cell.TheVariants as cell
 use Rattle.node_store.specs.Nodes.{key_of, rows, cell_tree, branches}
-use Rattle.node_store.specs.Shown.{ArePrim, HasMembers, HasTexts, AreTexts}
+use Rattle.node_store.specs.Shown.{ArePrim}
 
 -- a row as an entry of the value
 abbrev pub shown : List Tree → Key × Cell → Key × Plain

@@ -2,8 +2,6 @@
 use Rattle.std.proofs.Common.{◌≡◌, ◌≢◌, ℕ, ap, arith, refl, List}
 use Rattle.std.specs.Coded.{Coded, coded_ℕ, coded_list}
 use base.Stored.{Gv, gnil, gnum, gcons}
-use Rattle.value_model.specs.declared.key.Key.{Key}
-use Rattle.value_model.specs.declared.words.Kind.{Kind}
 use Rattle.value_model.specs.Code.{coded_key, coded_kind}
 use Rattle.numbered.specs.Tree.{Tree, Branches, prim, node, none, branch}
 

@@ -1,11 +1,11 @@
 -- Worked rows of loading: the state {"a":{"x":0},"b":{"x":0}}, whose container a is 1, b is 2, and the root 3.
-use Rattle.std.specs.Prelude.{◌≡◌, ℕ, pos, List, [], ◌∷◌, codes, refl, false}
+use Rattle.std.specs.Prelude.{◌≡◌, ℕ, pos, [], ◌∷◌, codes, refl, false}
 use Rattle.value_model.specs.declared.key.Key.{Key}
 use Rattle.value_model.specs.declared.key.Key.TheVariants.{Int, Text}
 use Rattle.value_model.specs.declared.words.Kind.TheVariants as kind
 use Rattle.value_model.specs.Plain as plain_value
 use Rattle.value_model.specs.Plain.{Plain}
-use Rattle.numbered.specs.Tree.{Tree, prim, node, none, branch, plain, containers, own_weight}
+use Rattle.numbered.specs.Tree.{Tree, prim, node, none, branch, plain, containers}
 use Rattle.numbered.specs.Store.{used}
 use Rattle.numbered.specs.Loading.{numbered, loaded, load_full}
 

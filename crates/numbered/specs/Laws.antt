@@ -1,13 +1,12 @@
 -- What holds of stores and of numbered states.
-use Rattle.std.proofs.Common.{◌≡◌, ◌≢◌, ℕ, zero, suc, ◌+◌, ◌-◌, ◌<◌, ◌≤◌, List, [], ◌∷◌, ◌++◌, length, get_or, map, take, drop, refl, ap, sym, ◌∙◌, subst, arith, true, false, max}
-use Rattle.std.specs.Prelude.{Option, Some, None, nat_lt, Bool, ◌||◌, ◌^◌, slice_get, IsTrue}
+use Rattle.std.proofs.Common.{◌≡◌, ℕ, zero, suc, ◌+◌, ◌-◌, ◌<◌, ◌≤◌, List, [], ◌∷◌, ◌++◌, length, get_or, map, take, refl, ap, sym, ◌∙◌, subst, arith, true, false}
+use Rattle.std.specs.Prelude.{Some, None, nat_lt, Bool, ◌||◌, ◌^◌, slice_get, IsTrue}
 use Rattle.std.specs.List.{range_with_len}
 use Rattle.std.proofs.lemmas.List.{append-nil, append_assoc, map-append}
 use Rattle.std.proofs.lemmas.Grind.{common_steps, elements}
 use Rattle.value_model.specs.declared.key.Key.{Key}
 use Rattle.value_model.specs.declared.key.Key.TheVariants as key
 use Rattle.value_model.specs.declared.words.Kind.{Kind}
-use Rattle.value_model.specs.declared.words.Limit.{Limit}
 use Rattle.value_model.specs.declared.words.Limit.TheVariants as limit
 use Rattle.value_model.specs.Limits.{value_limit, state_limit}
 use Rattle.value_model.specs.Well.{well}
@@ -15,7 +14,7 @@ use Rattle.value_model.specs.Plain as plain_value
 use Rattle.value_model.specs.Plain.{Plain, Entries, key_weight, place_weight, weight, weights, values, values_in}
 use Rattle.numbered.specs.Tree.{Tree, Branches, prim, node, none, branch, plain, plains, number, containers, containers_in, place, place_in, IsNumberedState, child_weight, child_weights, own_weight, branches_of, children, before}
 use Rattle.numbered.specs.Store.{IsNumber, tree_at, used, IsOf, AllOf, IsNext, AreNext, IsStore, is_full}
-use Rattle.numbered.specs.Loading.{places, places_in, numbered, numbered_in, post_order, post_orders, additions, loaded, any_full, load_full}
+use Rattle.numbered.specs.Loading.{places, places_in, numbered, numbered_in, post_order, post_orders, additions, any_full, load_full}
 
 -- ---- a store's states
 pub next_at : (ts more : List Tree) (i : ℕ) (d : Tree) → AreNext ts more → i < length more → IsNext (ts ++ take i more) (get_or more i d)

@@ -12,7 +12,7 @@ use anyhow::Context;
 use node_store::{Store, StoreFault};
 use std::alloc::{AllocError, Global};
 use std::env;
-use std::time::Instant;
+use std::time::{Duration, Instant};
 use value_checks::check_state;
 use values::{Key, Node, Val};
 
@@ -77,16 +77,31 @@ fn filled(alloc: Global, many: u32, rest: u32, heavy: u32, last: u32) -> anyhow:
     Ok(store)
 }
 
+/// A time in microseconds.
+fn micros(time: Duration) -> u64 {
+    let all = time.as_micros();
+    if all < 1 << 60 { all as u64 } else { 1 << 60 }
+}
+
 /// A store that is full, as a line of text.
-fn report(rt: &HostRuntime, name: &str, many: u32, rest: u32, heavy: u32, last: u32) -> anyhow::Result<()> {
+fn report(
+    rt: &HostRuntime,
+    name: &str,
+    many: u32,
+    rest: u32,
+    heavy: u32,
+    last: u32,
+) -> anyhow::Result<()> {
     let alloc = rt.alloc();
     let start = Instant::now(rt)?;
     let mut store = filled(alloc, many, rest, heavy, last)?;
     let (len, used) = (store.len(), store.used());
     let full = is_full(alloc, &mut store)?;
     let same = store.len() == len && store.used() == used;
-    let millis = start.elapsed(rt)?.as_millis() as u64;
-    println!(*rt; "{name}: {len} nodes, {used} of weight, full: {full}, as before: {same}, {millis} ms")?;
+    let millis = micros(start.elapsed(rt)?) / 1000;
+    println!(*rt;
+        "{name}: {len} nodes, {used} of weight, full: {full}, as before: {same}, {millis} ms"
+    )?;
     Ok(())
 }
 
@@ -98,13 +113,17 @@ fn speed(rt: &HostRuntime) -> anyhow::Result<()> {
     let mut store = Store::new(alloc)?;
     let start = Instant::now(rt)?;
     let id = store.load(alloc, &v).ok().context("no room")?;
-    let load = start.elapsed(rt)?.as_micros() as u64;
+    let load = micros(start.elapsed(rt)?);
     let start = Instant::now(rt)?;
     let again = store.unfold(alloc, id)?;
-    let unfold = start.elapsed(rt)?.as_micros() as u64;
+    let unfold = micros(start.elapsed(rt)?);
     drop(again);
     let nodes = store.len().min(1 << 21) * 1_000_000;
-    println!(*rt; "load {} nodes/s, unfold {} nodes/s", nodes / load.max(1), nodes / unfold.max(1))?;
+    println!(*rt;
+        "load {} nodes/s, unfold {} nodes/s",
+        nodes / load.max(1),
+        nodes / unfold.max(1)
+    )?;
     Ok(())
 }
 
@@ -116,7 +135,11 @@ fn small(rt: &HostRuntime) -> anyhow::Result<()> {
     let mut store = Store::new(alloc)?;
     let id = store.load(alloc, &v).ok().context("no room")?;
     let again = store.unfold(alloc, id)?;
-    println!(*rt; "{} nodes, {} values again", store.len(), values::values(&again))?;
+    println!(*rt;
+        "{} nodes, {} values again",
+        store.len(),
+        values::values(&again)
+    )?;
     Ok(())
 }
 

@@ -2,78 +2,55 @@ use crate::making::{described, state_of, text_of};
 use node_store::{Kind, Store};
 use std::test::Fail;
 
-/// A state, the number of its root, that node, what the store weighs then, and the root's weight, values, depth and
+/// A state, the node of its root, and: the root's number, what the store weighs then, the root's weight, values, depth and
 /// container places.
-const LOADED: [(&str, u64, &str, u64, u64, u64, u64, u64); 8] = [
-    ("{}", 1, "Obj", 1, 1, 1, 1, 1),
-    ("[]", 1, "List", 1, 1, 1, 1, 1),
+const LOADED: [(&str, &str, [u64; 6]); 8] = [
+    ("{}", "Obj", [1, 1, 1, 1, 1, 1]),
+    ("[]", "List", [1, 1, 1, 1, 1, 1]),
     (
         "{\"a\":{\"x\":0},\"b\":{\"x\":0}}",
-        3,
         "Obj \"a\":#1 \"b\":#2",
-        15,
-        13,
-        5,
-        2,
-        3,
+        [3, 15, 13, 5, 2, 3],
     ),
-    ("[[],[[]],3]", 4, "List #1 #3 3", 8, 5, 5, 3, 4),
+    ("[[],[[]],3]", "List #1 #3 3", [4, 8, 5, 5, 3, 4]),
     (
         "{\"$map\":[[1,[]],[\"k\",null]]}",
-        2,
         "Map 1:#1 \"k\":null",
-        7,
-        6,
-        3,
-        2,
-        2,
+        [2, 7, 6, 3, 2, 2],
     ),
     (
         "{\"$set\":[1,\"ab\"]}",
-        1,
         "Set 1:1 \"ab\":\"ab\"",
-        5,
-        5,
-        3,
-        1,
-        1,
+        [1, 5, 5, 3, 1, 1],
     ),
     (
         "{\"t\":[1,2],\"u\":{\"$set\":[true]}}",
-        3,
         "Obj \"t\":#1 \"u\":#2",
-        12,
-        10,
-        6,
-        2,
-        3,
+        [3, 12, 10, 6, 2, 3],
     ),
     (
         "{\"$map\":[[null,{\"$map\":[]}],[-1,\"v\"]]}",
-        2,
         "Map null:#1 -1:\"v\"",
-        7,
-        6,
-        3,
-        2,
-        2,
+        [2, 7, 6, 3, 2, 2],
     ),
 ];
 
 #[test]
 fn each_state_has_its_root(rt: HostRuntime) -> Result<(), Fail> {
     let alloc = rt.alloc();
-    for (text, root, node, used, weight, values, depth, containers) in LOADED {
+    for (text, node, sizes) in LOADED {
         let mut store = Store::new(alloc)?;
         let id = store.load(alloc, &state_of(alloc, text)?)?;
-        assert_eq!(rt; id.get(), root, "at {text}");
-        assert_eq!(rt; store.len(), root, "at {text}");
-        assert_eq!(rt; store.used(), used, "at {text}");
+        let measured = [
+            id.get(),
+            store.used(),
+            store.weight(id),
+            store.values(id),
+            store.depth(id),
+            store.containers(id),
+        ];
+        assert_eq!(rt; measured, sizes, "at {text}");
         assert_eq!(rt; described(alloc, &store, id)?.as_str(), node, "at {text}");
-        assert_eq!(rt; store.weight(id), weight, "at {text}");
-        assert_eq!(rt; store.values(id), values, "at {text}");
-        assert_eq!(rt; store.depth(id), depth, "at {text}");
-        assert_eq!(rt; store.containers(id), containers, "at {text}");
         let unfolded = store.unfold(alloc, id)?;
         assert_eq!(rt; text_of(alloc, &unfolded)?.as_str(), text, "at {text}");
     }

@@ -1,4 +1,4 @@
-use Rattle.std.proofs.Common.{◌≡◌, ◌<◌, ◌≤◌, ◌+◌, ℕ, List, [], ◌∷◌, ◌++◌, length, map, drop, get_or, ap, sym, ◌∙◌, subst, arith, true, refl}
+use Rattle.std.proofs.Common.{◌+◌, ℕ, List, [], ◌∷◌, ◌++◌, map, drop, get_or, ap, sym, ◌∙◌, subst, arith, refl}
 use Rattle.std.specs.Prelude.{Err}
 use Rattle.std.specs.FinMap.Entries.{is_sorted}
 use Rattle.value_model.specs.Order.{key_cmp}
@@ -6,15 +6,13 @@ use Rattle.std.proofs.lemmas.Result.{err_from_is_err_and}
 use Rattle.value_model.specs.declared.key.Key.{Key}
 use Rattle.value_model.specs.declared.key.Key.TheVariants as key
 use Rattle.value_model.specs.declared.words.Kind.TheVariants as kind
-use Rattle.value_model.specs.Plain.{Plain, Entries, list_of, values_in, entry}
+use Rattle.value_model.specs.Plain.{Plain, values_in}
 use Rattle.value_model.specs.Steps.{list_of_entries}
 use Rattle.values.specs.Fits.{fields_fit}
 use Rattle.values.specs.Seen.{of_field, of_entry, of_item, of_fields, of_entries, of_items}
 use Rattle.values.specs.declared.val.Field.{Field}
 use Rattle.values.specs.declared.val.Entry.{Entry}
-use Rattle.node_store.specs.declared.fault.StoreFault.{StoreFault}
-use Rattle.node_store.specs.declared.node.Cell.{Cell}
-use Rattle.node_store.specs.Loads.{Loads, LoadsTable, IsLoading, AreLoaded, Refused, entries_step, loading_start, loading_step, loading_refused, loading_end, entries_end, list_push, for_memory, refused_in, root_accepted, root_loaded, root_refused, not_full, obj_rows, map_rows, obj_node, map_node, all_within, full_in}
+use Rattle.node_store.specs.Loads.{IsLoading, entries_step, loading_step, loading_refused, loading_end, entries_end, list_push, for_memory, refused_in, root_accepted, root_loaded, root_refused, not_full, obj_rows, map_rows, obj_node, map_node, all_within, full_in}
 use Rattle.node_store.specs.Nodes.{rows, CellsBelow}
 use Rattle.node_store.specs.Tables.{cells_of_rows}
 use Rattle.node_store.proofs.load.+load.Goals as goal

@@ -1,12 +1,9 @@
-use Rattle.std.proofs.Common.{◌≡◌, ◌∙◌, List, map, ap, sym, subst, refl}
+use Rattle.std.proofs.Common.{◌∙◌, map, subst}
 use Rattle.std.specs.List.{zip}
-use Rattle.value_model.specs.declared.key.Key.{Key}
 use Rattle.value_model.specs.declared.words.Kind.{Kind}
-use Rattle.value_model.specs.declared.words.Kind.TheVariants as kind
 use Rattle.numbered.specs.Tree.{plain}
 use Rattle.numbered.specs.Store.{tree_at}
 use Rattle.values.specs.Seen.{of_field, of_entry}
-use Rattle.node_store.specs.declared.node.Cell.{Cell}
 use Rattle.node_store.specs.Nodes.{key_of}
 use Rattle.node_store.specs.Shown.{HasMembers}
 use Rattle.node_store.specs.Unfolds.{shown, cell_value, obj_value, map_value, list_value, set_value, obj_order, map_order, set_order}

@@ -1,4 +1,4 @@
-use Rattle.std.proofs.Common.{◌≡◌, ◌≤◌, ◌+◌, ◌*◌, ◌++◌, length, map, drop}
+use Rattle.std.proofs.Common.{◌≡◌, ◌≤◌, ◌+◌, ◌*◌, ◌++◌, map, drop}
 use Rattle.std.specs.List.{zip}
 use Rattle.value_model.specs.Plain.{values}
 use Rattle.numbered.specs.Tree.{plain}

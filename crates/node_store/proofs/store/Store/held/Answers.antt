@@ -1,4 +1,4 @@
-use Rattle.std.proofs.Common.{◌≡◌, ◌<◌, ◌-◌, [], List, length, get_or, ap, arith}
+use Rattle.std.proofs.Common.{◌-◌, [], List, length, get_or, ap, arith}
 use Rattle.numbered.specs.Tree.{Tree}
 use Rattle.numbered.specs.Store.{IsNumber}
 use Rattle.node_store.specs.Grown.{length_news, held_at, is_store}

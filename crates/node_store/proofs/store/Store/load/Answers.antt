@@ -1,11 +1,9 @@
-use Rattle.std.proofs.Common.{◌≡◌, ◌∙◌, ℕ, List, length, take, ap, sym, subst}
+use Rattle.std.proofs.Common.{◌∙◌, ℕ, take, ap, sym, subst}
 use Rattle.numbered.specs.Tree.{Tree, plain}
-use Rattle.numbered.specs.Store.{tree_at}
 use Rattle.numbered.specs.Laws.{plain_numbered, cut_back}
-use Rattle.numbered.specs.Loading.{numbered}
 use Rattle.node_store.specs.declared.node.Cell.{Cell}
 use Rattle.node_store.specs.declared.node.Cell.TheVariants as cell
-use Rattle.node_store.specs.Loads.{IsLast, IsLoaded}
+use Rattle.node_store.specs.Loads.{IsLast}
 use Rattle.node_store.specs.Nodes.{cell_tree}
 use Rattle.node_store.proofs.store.Store.load.Goals as goal
 

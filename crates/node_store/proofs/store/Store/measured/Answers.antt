@@ -1,8 +1,6 @@
-use Rattle.std.proofs.Common.{refl, ◌≡◌, ◌∙◌, sym, ap}
-use Rattle.numbered.specs.Tree.{own_weight}
+use Rattle.std.proofs.Common.{◌∙◌, sym}
 use Rattle.node_store.specs.Added.{light_state, own_state}
-use Rattle.node_store.specs.Nodes.{built}
-use Rattle.node_store.specs.Sums.{IsLight, IsMeasured}
+use Rattle.node_store.specs.Sums.{IsMeasured}
 use Rattle.node_store.proofs.store.Store.measured.Goals as goal
 
 pub measure-requires-clause-light : goal.measure-requires-clause-light

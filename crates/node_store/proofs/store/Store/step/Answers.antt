@@ -1,6 +1,6 @@
-use Rattle.std.proofs.Common.{◌≡◌, ◌<◌, ◌+◌, ◌-◌, arith, ap, sym, ◌∙◌}
-use Rattle.std.specs.Prelude.{Option, Some, slice_get}
-use Rattle.numbered.specs.Tree.{Tree, prim, branches_of, children, before, containers, place}
+use Rattle.std.proofs.Common.{◌≡◌, arith, ap, ◌∙◌}
+use Rattle.std.specs.Prelude.{Some, slice_get}
+use Rattle.numbered.specs.Tree.{prim, branches_of, children}
 use Rattle.numbered.specs.Store.{tree_at}
 use Rattle.numbered.specs.Laws.{within_child, place_in_child}
 use Rattle.node_store.specs.declared.node.Cell.{Cell}

@@ -1,4 +1,4 @@
-use Rattle.std.proofs.Common.{◌≡◌, ◌<◌, ◌≤◌, ◌-◌, [], List, length, take, get_or, ap, arith, sym, ◌∙◌}
+use Rattle.std.proofs.Common.{[], List, length, take, ap, arith, ◌∙◌}
 use Rattle.numbered.specs.Tree.{Tree}
 use Rattle.numbered.specs.Store.{used}
 use Rattle.node_store.specs.declared.held.Held.{Held}

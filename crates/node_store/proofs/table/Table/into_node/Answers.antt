@@ -1,4 +1,4 @@
-use Rattle.std.proofs.Common.{◌≡◌, ◌∙◌, List, map, ap, sym, true, subst}
+use Rattle.std.proofs.Common.{◌∙◌, List, map, ap, sym}
 use Rattle.value_model.specs.declared.key.Key.{Key}
 use Rattle.node_store.specs.declared.node.Cell.{Cell}
 use Rattle.node_store.specs.Nodes.{is_node}
