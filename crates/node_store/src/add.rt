@@ -35,27 +35,30 @@ impl Store {
         ensures only { IsErrOf result StoreFault.Full → is_full self.old (state_of self.old node) ≡ true }
         ensures stands { OnErr result (self.new ≡ self.old) }
     {
+        let len = self.len();
         let measures = self.measured(&node);
-        if self.len() >= MOST_NODES || self.used() + measures.own > MOST_USED {
+        if len >= MOST_NODES || self.used() + measures.own > MOST_USED {
             return Err(StoreFault::Full);
         }
         let held = self.hold(alloc, node, measures)?;
         Ok(self.push(held)?)
     }
 
+    /// What a node that is to be added measures.
     fn measured(&self, node: &Node) -> Measures
+        requires store { IsStore self.now }
         requires below { CellsBelow self.now node.now.cells }
         requires accepted { state_limit (plain (state_of self.now node.now)) ≡ None }
         ensures measured { IsMeasured self.now node.now.kind node.now.keys node.now.cells result }
         ensures light { IsLight self.now node.now.kind node.now.keys node.now.cells }
         ensures own { result.own ≡ own_weight (state_of self.now node.now) }
     {
-        let _ = self.len();
         self.measure(node.kind, node.keys.as_slice(), node.cells.as_slice())
     }
 
     /// What is kept of a node that is to be added.
     fn hold(&self, alloc: Global, node: Node, measures: Measures) -> Result<Held, AllocError>
+        requires store { IsStore self.now }
         requires below { CellsBelow self.now node.cells }
         requires accepted { state_limit (plain (state_of self.now node)) ≡ None }
         requires light { IsLight self.now node.kind node.keys node.cells }
@@ -66,7 +69,6 @@ impl Store {
     {
         let before = self.sums(alloc, node.cells.as_slice())?;
         let total = self.used() + measures.own;
-        let _ = self.len();
         let Node { kind, keys, cells } = node;
         Ok(Held {
             keys: held_keys(alloc, kind, keys),

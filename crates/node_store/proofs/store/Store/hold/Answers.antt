@@ -5,7 +5,7 @@ use Rattle.node_store.proofs.store.Store.hold.Goals as goal
 
 pub returns-clause-kept : goal.returns-clause-kept
 returns-clause-kept c =
-    kept_from c.args.self.now _ c.args.node.keys c.args.node.cells c.args.measures c.len.ensures.store c.requires.below c.args.node.fits c.requires.accepted c.requires.measured
+    kept_from c.args.self.now _ c.args.node.keys c.args.node.cells c.args.measures c.requires.store c.requires.below c.args.node.fits c.requires.accepted c.requires.measured
     (record {
       keys = c.held_keys.ensures;
       cells = c.into_vec.ensures;
