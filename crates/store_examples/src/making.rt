@@ -44,6 +44,20 @@ pub(crate) fn described(alloc: Global, store: &Store, id: NodeId) -> Result<Stri
     Ok(out)
 }
 
+/// A node's number, what its store weighs, and the node's weight, values, depth and container places.
+pub(crate) fn sizes_of(store: &Store, id: NodeId) -> [u64; 6]
+    requires { id ≤ length store.now }
+{
+    [
+        id.get(),
+        store.used(),
+        store.weight(id),
+        store.values(id),
+        store.depth(id),
+        store.containers(id),
+    ]
+}
+
 fn name_of(kind: Kind) -> &'static str {
     match kind {
         Kind::Obj => "Obj",
