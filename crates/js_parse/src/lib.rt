@@ -1,0 +1,2 @@
+//! The program that the tokens of a script spell.
+#![tactic(auto)]
