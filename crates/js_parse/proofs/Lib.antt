@@ -1,0 +1,4 @@
+pub mod Good
+pub mod Tests
+pub mod Lists
+pub mod Languages
