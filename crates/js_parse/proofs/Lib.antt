@@ -2,3 +2,4 @@ pub mod Good
 pub mod Tests
 pub mod Lists
 pub mod Languages
+pub mod Expressions
