@@ -1,18 +1,15 @@
 -- What holds of each step of the parser, and is kept where steps are put together.
-use Rattle.std.proofs.Common.{◌≡◌, ℕ, zero, suc, ◌+◌, ◌<◌, ◌≤◌, Bool, true, false, List, [], ◌∷◌, ◌++◌, length, Option, Some, None, Result, Ok, Err, refl, sym, ap, subst, ◌∙◌, append_assoc, append-nil, arith, ◌⊎◌, inl, inr, length-append}
+use Rattle.std.proofs.Common.{◌≡◌, ℕ, zero, suc, ◌+◌, ◌-◌, ◌<◌, ◌≤◌, Bool, true, false, List, [], ◌∷◌, ◌++◌, length, Option, Some, None, Result, Ok, Err, refl, sym, ap, subst, ◌∙◌, append_assoc, append-nil, arith, ◌⊎◌, inl, inr, length-append}
 use Rattle.std.specs.Prelude.{if◌then◌else◌}
 use Rattle.script_grammar.specs.Tokens.{Tok, Name, Toks}
 use Rattle.js_parse.specs.Steps.{Why, Unexpected, TooNested, Outcome, Parser, and_then, ◌>>=◌, pure, fail, taken, take, refused, too_deep, first, look, again_from, again, many_by, many, finish}
 
--- Which tokens are read as which value: where the cause is Unexpected, of trees within the levels, and otherwise of any.
+-- Which tokens are read as which value, where the first n of them open no level too many.
 abbrev pub Lang : Type 0 → Type 1
-Lang A = Why → A → Toks → Type 0
-
-abbrev pub Wide : {A : Type 0} → Lang A → Type 0
-Wide {A = A} L = (a : A) (x : Toks) → L Unexpected a x → L TooNested a x
+Lang A = ℕ → A → Toks → Type 0
 
 abbrev pub Example : {A : Type 0} → Lang A → Type 0
-Example {A = A} L = (a : A) × (x : Toks) × L Unexpected a x
+Example {A = A} L = (a : A) × (x : Toks) × L 0 a x
 
 -- where the levels are too many, the next token goes on as well
 abbrev pub Shown : Why → Toks → Toks → Type 0
@@ -25,10 +22,10 @@ shown_more Unexpected rest more z h = tt
 shown_more TooNested [] more z h = h
 shown_more TooNested (t ∷ rest) more z h = (h.0 ++ z, rw h.1 refl)
 
--- What was read is the front. At a fault the front goes on to something that is read.
+-- What was read is the front. At a fault the front goes on to something that is read, and opens no level too many.
 abbrev pub Judge : {A : Type 0} → Lang A → Toks → Outcome A → Type 0
-Judge L ts (Ok p) = (x : Toks) × L Unexpected p.0 x × (ts ≡ x ++ p.1)
-Judge {A = A} L ts (Err e) = (x more : Toks) × (a : A) × (ts ≡ x ++ e.1) × L e.0 a (x ++ more) × Shown e.0 e.1 more
+Judge L ts (Ok p) = (x : Toks) × ((n : ℕ) → L n p.0 x) × (ts ≡ x ++ p.1)
+Judge {A = A} L ts (Err e) = (x more : Toks) × (a : A) × (ts ≡ x ++ e.1) × L (length x) a (x ++ more) × Shown e.0 e.1 more
 
 -- Two runs on tokens that end in r and in o: the first goes behind the first token of r, or both end alike.
 abbrev pub Alike : {A : Type 0} → Toks → Toks → Outcome A → Outcome A → Type 0
@@ -37,40 +34,33 @@ Alike r o (Err e) out = (length e.1 < length r) ⊎ ((y : Toks) × (e.1 ≡ y ++
 
 pub record Good {A : Type 0} (L : Lang A) (p : Parser A) : Type 0 where
   pub some : Example L
-  pub wider : Wide L
   pub judge : (ts : Toks) → Judge L ts (p ts)
   pub alike : (z : Toks) (t : Tok) (r o : Toks) → Alike (t ∷ r) (t ∷ o) (p (z ++ t ∷ r)) (p (z ++ t ∷ o))
 
 -- ---- languages of the steps
 abbrev pub Seq : {A B : Type 0} → Lang A → (A → Lang B) → Lang B
-Seq {A = A} L M w b ts = (a : A) × (x y : Toks) × L w a x × M a w b y × (ts ≡ x ++ y)
+Seq {A = A} L M n b ts = (a : A) × (x y : Toks) × L n a x × M a (n - length x) b y × (ts ≡ x ++ y)
 
 abbrev pub Nothing : {A : Type 0} → A → Lang A
-Nothing a w b ts = (b ≡ a) × (ts ≡ [])
+Nothing a n b ts = (b ≡ a) × (ts ≡ [])
 
 abbrev pub Taken : {A : Type 0} → (Tok → Option A) → Lang A
-Taken f w a ts = (t : Tok) × (f t ≡ Some a) × (ts ≡ t ∷ [])
+Taken f n a ts = (t : Tok) × (f t ≡ Some a) × (ts ≡ t ∷ [])
 
 abbrev pub End : Lang (Unit {0})
-End w u ts = ts ≡ []
-
-widen : {A : Type 0} (L : Lang A) → Wide L → (w : Why) (a : A) (x : Toks) → L Unexpected a x → L w a x
-widen L h Unexpected a x l = l
-widen L h TooNested a x l = h a x l
+End n u ts = ts ≡ []
 
 -- ---- the steps
 pub good_pure : {A : Type 0} (a : A) → Good (Nothing a) (pure a)
 good_pure a = record {
   some = (a, [], (refl, refl));
-  wider = λ b x h. h;
-  judge = λ ts. ([], (refl, refl), refl);
+  judge = λ ts. ([], (λ n. (refl, refl)), refl);
   alike = λ z t r o. inr (z, refl, refl)
 }
 
-pub good_fail : {A : Type 0} (L : Lang A) → Wide L → Example L → Good L fail
-good_fail L wide s = record {
+pub good_fail : {A : Type 0} (L : Lang A) → Example L → Good L fail
+good_fail L s = record {
   some = s;
-  wider = wide;
   judge = λ ts. ([], s.1, s.0, refl, s.2, tt);
   alike = λ z t r o. inr (z, refl, refl)
 }
@@ -78,7 +68,6 @@ good_fail L wide s = record {
 pub good_look : {A : Type 0} (L : Lang A) (f : Option Tok → Parser A) → ((c : Option Tok) → Good L (f c)) → Good L (look f)
 good_look L f g = record {
   some = (g None).some;
-  wider = (g None).wider;
   judge = λ ts. (g (first ts)).judge ts;
   alike = both
 }
@@ -87,36 +76,41 @@ good_look L f g = record {
     both [] t r o = (g (Some t)).alike [] t r o
     both (a ∷ z) t r o = (g (Some a)).alike (a ∷ z) t r o
 
-pub good_sub : {A : Type 0} (L M : Lang A) (p : Parser A) → Wide M → ((w : Why) (a : A) (ts : Toks) → L w a ts → M w a ts) → Good L p → Good M p
-good_sub {A = A} L M p wide h g = record {
-  some = (g.some.0, g.some.1, h Unexpected _ _ g.some.2);
-  wider = wide;
+pub good_sub : {A : Type 0} (L M : Lang A) (p : Parser A) → ((n : ℕ) (a : A) (ts : Toks) → L n a ts → M n a ts) → Good L p → Good M p
+good_sub {A = A} L M p h g = record {
+  some = (g.some.0, g.some.1, h 0 _ _ g.some.2);
   judge = λ ts. judged ts (p ts) (g.judge ts);
   alike = g.alike
 }
   where
     judged : (ts : Toks) (out : Outcome A) → Judge L ts out → Judge M ts out
-    judged ts (Ok q) j = (j.0, h Unexpected _ _ j.1, j.2)
-    judged ts (Err e) j = (j.0, j.1, j.2, j.3, h e.0 _ _ j.4, j.5)
+    judged ts (Ok q) j = (j.0, (λ n. h n _ _ (j.1 n)), j.2)
+    judged ts (Err e) j = (j.0, j.1, j.2, j.3, h (length j.0) _ _ j.4, j.5)
 
 pub no_longer : (ts : Toks) (x rest : Toks) → ts ≡ x ++ rest → length rest ≤ length ts
 no_longer ts x rest e = rw (e, length-append) omega (arith)
 
+-- the tokens of a second part that are counted
+pub left_of : (x y : Toks) → length (x ++ y) - length x ≡ length y
+left_of x y = omega (arith, length-append x y)
+
+pub none_of : (x y : Toks) → length x - length (x ++ y) ≡ 0
+none_of x y = omega (arith, length-append x y)
+
 pub good_bind : {A B : Type 0} (L : Lang A) (M : A → Lang B) (p : Parser A) (f : A → Parser B) → Good L p → ((a : A) → Good (M a) (f a)) → Good (Seq L M) (p >>= f)
 good_bind {A = A} {B = B} L M p f g h = record {
-  some = let s = g.some in let u = (h s.0).some in (u.0, s.1 ++ u.1, (s.0, s.1, u.1, s.2, u.2, refl));
-  wider = λ b ts k. (k.0, k.1, k.2, g.wider k.0 k.1 k.3, (h k.0).wider b k.2 k.4, k.5);
+  some = let s = g.some in let u = (h s.0).some in let e : 0 - length s.1 ≡ 0 = omega arith in (u.0, s.1 ++ u.1, (s.0, s.1, u.1, s.2, subst (λ (n : ℕ). M s.0 n u.0 u.1) (sym e) u.2, refl));
   judge = λ ts. judged ts (p ts) (g.judge ts);
   alike = λ z t r o. both (t ∷ r) (t ∷ o) (z ++ t ∷ r) (p (z ++ t ∷ r)) (p (z ++ t ∷ o)) t r o refl refl (g.alike z t r o)
 }
   where
-    second : (ts : Toks) (a : A) (x rest : Toks) → L Unexpected a x → ts ≡ x ++ rest → (out : Outcome B) → Judge (M a) rest out → Judge (Seq L M) ts out
-    second ts a x rest l e (Ok q) j = (x ++ j.0, (a, x, j.0, l, j.1, refl), e ∙ ap (λ (w : Toks). x ++ w) j.2 ∙ sym (append_assoc x j.0 q.1))
-    second ts a x rest l e (Err q) j = (x ++ j.0, j.1, j.2, e ∙ ap (λ (w : Toks). x ++ w) j.3 ∙ sym (append_assoc x j.0 q.1), (a, x, j.0 ++ j.1, widen L g.wider q.0 a x l, j.4, append_assoc x j.0 j.1), j.5)
+    second : (ts : Toks) (a : A) (x rest : Toks) → ((n : ℕ) → L n a x) → ts ≡ x ++ rest → (out : Outcome B) → Judge (M a) rest out → Judge (Seq L M) ts out
+    second ts a x rest l e (Ok q) j = (x ++ j.0, (λ n. (a, x, j.0, l n, j.1 (n - length x), refl)), e ∙ ap (λ (w : Toks). x ++ w) j.2 ∙ sym (append_assoc x j.0 q.1))
+    second ts a x rest l e (Err q) j = (x ++ j.0, j.1, j.2, e ∙ ap (λ (w : Toks). x ++ w) j.3 ∙ sym (append_assoc x j.0 q.1), (a, x, j.0 ++ j.1, l (length (x ++ j.0)), subst (λ (n : ℕ). M a n j.2 (j.0 ++ j.1)) (sym (left_of x j.0)) j.4, append_assoc x j.0 j.1), j.5)
 
     judged : (ts : Toks) (out : Outcome A) → Judge L ts out → Judge (Seq L M) ts (and_then out f)
     judged ts (Ok q) j = second ts q.0 j.0 q.1 j.1 j.2 (f q.0 q.1) ((h q.0).judge q.1)
-    judged ts (Err e) j = let u = (h j.2).some in (j.0, j.1 ++ u.1, u.0, j.3, (j.2, j.0 ++ j.1, u.1, j.4, widen (M j.2) (h j.2).wider e.0 u.0 u.1 u.2, sym (append_assoc j.0 j.1 u.1)), shown_more e.0 e.1 j.1 u.1 j.5)
+    judged ts (Err e) j = let u = (h j.2).some in (j.0, j.1 ++ u.1, u.0, j.3, (j.2, j.0 ++ j.1, u.1, j.4, subst (λ (n : ℕ). M j.2 n u.0 u.1) (sym (none_of j.0 j.1)) u.2, sym (append_assoc j.0 j.1 u.1)), shown_more e.0 e.1 j.1 u.1 j.5)
 
     shorter : (r o : Toks) (a : A) (rest : Toks) → length rest < length r → (out other : Outcome B) → Judge (M a) rest out → Alike r o out other
     shorter r o a rest l (Ok q) other j = inl (omega (arith, l, no_longer rest j.0 q.1 j.2))
@@ -130,10 +124,10 @@ good_bind {A = A} {B = B} L M p f g h = record {
 
 pub good_take : {A : Type 0} (f : Tok → Option A) (s : Tok) (a : A) → f s ≡ Some a → Good (Taken f) (take f)
 unfolding take
-good_take {A = A} f s a e = record { some = (a, s ∷ [], (s, e, refl)); wider = λ a x h. h; judge = judged; alike = both }
+good_take {A = A} f s a e = record { some = (a, s ∷ [], (s, e, refl)); judge = judged; alike = both }
   where
     chosen : (t : Tok) (ts : Toks) (o : Option A) → f t ≡ o → Judge (Taken f) (t ∷ ts) (taken o t ts)
-    chosen t ts (Some b) h = (t ∷ [], (t, h, refl), refl)
+    chosen t ts (Some b) h = (t ∷ [], (λ n. (t, h, refl)), refl)
     chosen t ts None h = ([], s ∷ [], a, refl, (s, e, refl), tt)
 
     judged : (ts : Toks) → Judge (Taken f) ts (take f ts)
@@ -152,9 +146,9 @@ good_take {A = A} f s a e = record { some = (a, s ∷ [], (s, e, refl)); wider =
     both [] t r o = here t r o (f t)
     both (b ∷ z) t r o = before b z t r o (f b)
 
-pub good_deep : {A B : Type 0} (L : Lang A) (f : Tok → Option B) → Wide L → Example L → ((t : Tok) (b : B) → f t ≡ Some b → (a : A) × (x : Toks) × L TooNested a (t ∷ x)) → Good L (too_deep f)
+pub good_deep : {A B : Type 0} (L : Lang A) (f : Tok → Option B) → Example L → ((t : Tok) (b : B) → f t ≡ Some b → (a : A) × (x : Toks) × L 0 a (t ∷ x)) → Good L (too_deep f)
 unfolding too_deep
-good_deep {A = A} {B = B} L f wide u deep = record { some = u; wider = wide; judge = judged; alike = both }
+good_deep {A = A} {B = B} L f u deep = record { some = u; judge = judged; alike = both }
   where
     chosen : (t : Tok) (ts : Toks) (o : Option B) → f t ≡ o → Judge L (t ∷ ts) (Err (refused o, t ∷ ts))
     chosen t ts (Some b) e = let d = deep t b e in ([], t ∷ d.1, d.0, refl, d.2, (d.1, refl))
@@ -170,10 +164,10 @@ good_deep {A = A} {B = B} L f wide u deep = record { some = u; wider = wide; jud
 
 pub good_finish : Good End finish
 unfolding finish
-good_finish = record { some = (tt, [], refl); wider = λ a x h. h; judge = judged; alike = both }
+good_finish = record { some = (tt, [], refl); judge = judged; alike = both }
   where
     judged : (ts : Toks) → Judge End ts (finish ts)
-    judged [] = ([], refl, refl)
+    judged [] = ([], (λ n. refl), refl)
     judged (t ∷ ts) = ([], [], tt, refl, refl, tt)
 
     both : (z : Toks) (t : Tok) (r o : Toks) → Alike (t ∷ r) (t ∷ o) (finish (z ++ t ∷ r)) (finish (z ++ t ∷ o))
@@ -190,7 +184,7 @@ abbrev pub Behind : {A C : Type 0} → (Parser A → Parser C) → Type 0
 Behind {A = A} turn = (p q : Parser A) (ts : Toks) → ((rest : Toks) → length rest < length ts → p rest ≡ q rest) → turn p ts ≡ turn q ts
 
 abbrev pub Consumes : {A : Type 0} → Lang A → Type 0
-Consumes {A = A} L = (a : A) (x : Toks) → L Unexpected a x → 0 < length x
+Consumes {A = A} L = (n : ℕ) (a : A) (x : Toks) → L n a x → 0 < length x
 
 pub within_behind : {A C : Type 0} (turn : Parser A → Parser C) → Behind turn → Within turn
 within_behind turn h p q ts e = h p q ts (λ rest l. e rest (omega (arith, l)))
@@ -204,7 +198,7 @@ behind_item {A = A} {B = B} I item go good some within p q ts e = after (item ts
     after : (out : Outcome A) → Judge I ts out → and_then out (go p) ≡ and_then out (go q)
     after (Ok r) j =
       let size : length ts ≡ length j.0 + length r.1 = ap (λ (w : Toks). length w) j.2 ∙ length-append j.0 r.1 in
-      let more = some r.0 j.0 j.1 in
+      let more = some 0 r.0 j.0 (j.1 0) in
       within r.0 p q r.1 (λ rest l. e rest (omega (arith, size, more, l)))
     after (Err f) j = refl
 
@@ -220,16 +214,15 @@ pub again_is : {C : Type 0} (turn : Parser C → Parser C) → Behind turn → (
 unfolding again again_from
 again_is turn h ts = h (again_from turn (length ts)) (again turn) ts (λ rest l. steady turn h (length ts) (suc (length rest)) rest l (omega arith))
 
-kept : {C : Type 0} (L : Lang C) (turn : Parser C → Parser C) → Wide L → Example L → ((p : Parser C) → Good L p → Good L (turn p)) → (n : ℕ) → Good L (again_from turn n)
+kept : {C : Type 0} (L : Lang C) (turn : Parser C → Parser C) → Example L → ((p : Parser C) → Good L p → Good L (turn p)) → (n : ℕ) → Good L (again_from turn n)
 unfolding again_from
-kept L turn wide s keep zero = good_fail L wide s
-kept L turn wide s keep (suc n) = keep (again_from turn n) (kept L turn wide s keep n)
+kept L turn s keep zero = good_fail L s
+kept L turn s keep (suc n) = keep (again_from turn n) (kept L turn s keep n)
 
-pub good_again : {C : Type 0} (L : Lang C) (turn : Parser C → Parser C) → Wide L → Example L → Behind turn → ((p : Parser C) → Good L p → Good L (turn p)) → Good L (again turn)
+pub good_again : {C : Type 0} (L : Lang C) (turn : Parser C → Parser C) → Example L → Behind turn → ((p : Parser C) → Good L p → Good L (turn p)) → Good L (again turn)
 unfolding again
-good_again {C = C} L turn wide s h keep = record {
+good_again {C = C} L turn s h keep = record {
   some = s;
-  wider = wide;
   judge = λ ts. (from (suc (length ts))).judge ts;
   alike = λ z t r o.
     let n = suc (length (z ++ t ∷ r)) in let m = suc (length (z ++ t ∷ o)) in
@@ -237,22 +230,20 @@ good_again {C = C} L turn wide s h keep = record {
 }
   where
     from : (n : ℕ) → Good L (again_from turn n)
-    from n = kept L turn wide s keep n
+    from n = kept L turn s keep n
 
 -- ---- where the next token is known
 pub record GoodAt {A : Type 0} (L : Lang A) (p : Parser A) (c : Option Tok) : Type 0 where
   pub some : Example L
-  pub wider : Wide L
   pub judge : (ts : Toks) → first ts ≡ c → Judge L ts (p ts)
   pub alike : (z : Toks) (t : Tok) (r o : Toks) → first (z ++ t ∷ r) ≡ c → Alike (t ∷ r) (t ∷ o) (p (z ++ t ∷ r)) (p (z ++ t ∷ o))
 
 pub good_at : {A : Type 0} (L : Lang A) (p : Parser A) (c : Option Tok) → Good L p → GoodAt L p c
-good_at L p c g = record { some = g.some; wider = g.wider; judge = λ ts e. g.judge ts; alike = λ z t r o e. g.alike z t r o }
+good_at L p c g = record { some = g.some; judge = λ ts e. g.judge ts; alike = λ z t r o e. g.alike z t r o }
 
 pub good_look_at : {A : Type 0} (L : Lang A) (f : Option Tok → Parser A) → ((c : Option Tok) → GoodAt L (f c) c) → Good L (look f)
 good_look_at L f g = record {
   some = (g None).some;
-  wider = (g None).wider;
   judge = λ ts. (g (first ts)).judge ts refl;
   alike = both
 }
@@ -263,12 +254,11 @@ good_look_at L f g = record {
 
 -- what is read begins with the next token
 abbrev pub Begun : {A : Type 0} → Lang A → (Option Tok → Type 0) → Lang A
-Begun L B w a ts = L w a ts × B (first ts)
+Begun L B n a ts = L n a ts × B (first ts)
 
-pub good_begun : {A : Type 0} (L : Lang A) (B : Option Tok → Type 0) (p : Parser A) (c : Option Tok) → Good L p → Consumes L → B c → (a : A) (x : Toks) → L Unexpected a x → B (first x) → GoodAt (Begun L B) p c
+pub good_begun : {A : Type 0} (L : Lang A) (B : Option Tok → Type 0) (p : Parser A) (c : Option Tok) → Good L p → Consumes L → B c → (a : A) (x : Toks) → L 0 a x → B (first x) → GoodAt (Begun L B) p c
 good_begun {A = A} L B p c g some here a x l b = record {
   some = (a, x, (l, b));
-  wider = λ b y k. (g.wider b y k.0, k.1);
   judge = λ ts e. judged ts (p ts) e (g.judge ts);
   alike = λ z t r o e. g.alike z t r o
 }
@@ -277,24 +267,23 @@ good_begun {A = A} L B p c g some here a x l b = record {
     front ts [] rest e h k = absurd (omega (arith, k))
     front ts (t ∷ y) rest e h k = let same : first ts ≡ Some t = ap first h in subst B (sym e ∙ same) here
 
-    fault : (ts y more : Toks) (w : Why) (rest : Toks) (v : A) → first ts ≡ c → ts ≡ y ++ rest → L w v (y ++ more) → Shown w rest more → Judge (Begun L B) ts (Err (w, rest))
+    fault : (ts y more : Toks) (w : Why) (rest : Toks) (v : A) → first ts ≡ c → ts ≡ y ++ rest → L (length y) v (y ++ more) → Shown w rest more → Judge (Begun L B) ts (Err (w, rest))
     fault ts (t ∷ y) more w rest v e h k s = (t ∷ y, more, v, h, (k, subst B (sym e ∙ ap first h) here), s)
     fault ts [] more Unexpected rest v e h k s = ([], x, a, h, (l, b), tt)
     fault ts [] more TooNested [] v e h k s = absurd s
     fault ts [] more TooNested (t ∷ rest) v e h k s = ([], more, v, h, (k, subst B (sym e ∙ ap first h ∙ sym (ap first s.1)) here), s)
 
     judged : (ts : Toks) (out : Outcome A) → first ts ≡ c → Judge L ts out → Judge (Begun L B) ts out
-    judged ts (Ok q) e j = (j.0, (j.1, front ts j.0 q.1 e j.2 (some q.0 j.0 j.1)), j.2)
+    judged ts (Ok q) e j = (j.0, (λ n. (j.1 n, front ts j.0 q.1 e j.2 (some n q.0 j.0 (j.1 n)))), j.2)
     judged ts (Err q) e j = fault ts j.0 j.1 q.0 q.1 j.2 e j.3 j.4 j.5
 
-pub good_sub_at : {A : Type 0} (L M : Lang A) (p : Parser A) (c : Option Tok) → Wide M → ((w : Why) (a : A) (ts : Toks) → L w a ts → M w a ts) → GoodAt L p c → GoodAt M p c
-good_sub_at {A = A} L M p c wide h g = record {
-  some = (g.some.0, g.some.1, h Unexpected _ _ g.some.2);
-  wider = wide;
+pub good_sub_at : {A : Type 0} (L M : Lang A) (p : Parser A) (c : Option Tok) → ((n : ℕ) (a : A) (ts : Toks) → L n a ts → M n a ts) → GoodAt L p c → GoodAt M p c
+good_sub_at {A = A} L M p c h g = record {
+  some = (g.some.0, g.some.1, h 0 _ _ g.some.2);
   judge = λ ts e. judged ts (p ts) (g.judge ts e);
   alike = g.alike
 }
   where
     judged : (ts : Toks) (out : Outcome A) → Judge L ts out → Judge M ts out
-    judged ts (Ok q) j = (j.0, h Unexpected _ _ j.1, j.2)
-    judged ts (Err e) j = (j.0, j.1, j.2, j.3, h e.0 _ _ j.4, j.5)
+    judged ts (Ok q) j = (j.0, (λ n. h n _ _ (j.1 n)), j.2)
+    judged ts (Err e) j = (j.0, j.1, j.2, j.3, h (length j.0) _ _ j.4, j.5)

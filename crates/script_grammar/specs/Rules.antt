@@ -1,10 +1,10 @@
 -- What a derivation keeps besides its spelling: how tightly operators bind, what may be assigned and deleted, and
--- where an `else` belongs. And how many levels it opens.
-use Rattle.std.specs.Prelude.{◌≡◌, ℕ, zero, suc, ◌<◌, Bool, true, false, ◌&&◌, List, [], ◌∷◌}
+-- where an `else` belongs. And which tokens open how many levels.
+use Rattle.std.specs.Prelude.{◌≡◌, ℕ, zero, suc, ◌-◌, ◌<◌, Bool, true, false, ◌&&◌, List, [], ◌∷◌, length}
 use Rattle.script_text.specs.declared.sign.Sign.{Sign}
 use Rattle.script_text.specs.declared.sign.Sign.TheVariants.{Same, NotSame, AtMost, AtLeast, Less, Greater, And, Or, Plus, Minus, Star, Percent, Not, OpenBrace}
 use Rattle.script_grammar.specs.Tokens.{Tok, Fixed, Toks}
-use Rattle.script_grammar.specs.Spelling.{spell_ex}
+use Rattle.script_grammar.specs.Spelling.{spell_ex, spell_prop, spell_suffix, spell_stmt, spell_item, spell_params, spell_reducer}
 use Rattle.script_grammar.specs.Trees.{Ex, Literal, Var, Round, ListOf, Object, Member, Unary, Chain, Choice, Elems, NoElems, LastElem, ThenElem, Prop, Keyed, Quoted, Short, Props, NoProps, LastProp, ThenProp, Suffix, Dot, Index, Suffixes, NoSuffixes, ThenSuffix, Links, NoLinks, ThenLink, Stmt, Block, Empty, IfThen, IfElse, Return, ReturnOf, Throw, ThrowError, Delete, Set, Do, Item, Const, Let, LetBe, Plain, Items, NoItems, ThenItem, Reducer, Function, Program, NoReducers, ThenReducer}
 
 -- the level of a binary operator, from 0, the tightest, to 5; 6 for other signs
@@ -137,89 +137,85 @@ abbrev pub Right : Program → Type 0
 Right NoReducers = Unit {0}
 Right (ThenReducer r rs) = RightReducer r × Right rs
 
--- It opens at most d levels: each bracket and brace, each sign before its operand, and each branch of a choice opens one.
-abbrev mutual
-  pub fits : Ex → ℕ → Bool
-  fits (Literal x) d = true
-  fits (Var at bytes) d = true
-  fits (Round e) zero = false
-  fits (Round e) (suc d) = fits e d
-  fits (ListOf es) zero = false
-  fits (ListOf es) (suc d) = fits_elems es d
-  fits (Object ps) zero = false
-  fits (Object ps) (suc d) = fits_props ps d
-  fits (Member e s ss) d = fits e d && (fits_suffix s d && fits_suffixes ss d)
-  fits (Unary s e) zero = false
-  fits (Unary s e) (suc d) = fits e d
-  fits (Chain k a s b ls) d = fits a d && (fits b d && fits_links ls d)
-  fits (Choice c a b) zero = false
-  fits (Choice c a b) (suc d) = fits c (suc d) && (fits a d && fits b d)
-
-  pub fits_elems : Elems → ℕ → Bool
-  fits_elems NoElems d = true
-  fits_elems (LastElem e) d = fits e d
-  fits_elems (ThenElem e es) d = fits e d && fits_elems es d
-
-  pub fits_prop : Prop → ℕ → Bool
-  fits_prop (Keyed w e) d = fits e d
-  fits_prop (Quoted bytes e) d = fits e d
-  fits_prop (Short at bytes) d = true
-
-  pub fits_props : Props → ℕ → Bool
-  fits_props NoProps d = true
-  fits_props (LastProp p) d = fits_prop p d
-  fits_props (ThenProp p ps) d = fits_prop p d && fits_props ps d
-
-  pub fits_suffix : Suffix → ℕ → Bool
-  fits_suffix (Dot w) d = true
-  fits_suffix (Index e) zero = false
-  fits_suffix (Index e) (suc d) = fits e d
-
-  pub fits_suffixes : Suffixes → ℕ → Bool
-  fits_suffixes NoSuffixes d = true
-  fits_suffixes (ThenSuffix s ss) d = fits_suffix s d && fits_suffixes ss d
-
-  pub fits_links : Links → ℕ → Bool
-  fits_links NoLinks d = true
-  fits_links (ThenLink s e ls) d = fits e d && fits_links ls d
+-- A token that opens a level, where d are left and n tokens are counted, it and those behind it.
+abbrev pub opens : ℕ → ℕ → (ℕ → ℕ → Bool) → Bool
+opens zero zero inside = true
+opens zero (suc n) inside = false
+opens (suc d) n inside = inside d (n - 1)
 
 -- A statement in a statement opens a level by its first token, and a block only that of its brace.
 abbrev pub inner_levels : Stmt → ℕ → ℕ
 inner_levels (Block is) d = suc d
 inner_levels _ d = d
 
+-- None of its first n tokens opens a level beyond d: each bracket and brace opens one until it is closed, a sign before
+-- an operand one for it, and each branch of a choice is one.
 abbrev mutual
-  pub fits_stmt : Stmt → ℕ → Bool
-  fits_stmt (Block is) zero = false
-  fits_stmt (Block is) (suc d) = fits_items is d
-  fits_stmt Empty d = true
-  fits_stmt (IfThen e s) zero = false
-  fits_stmt (IfThen e s) (suc d) = fits e d && fits_stmt s (inner_levels s d)
-  fits_stmt (IfElse e s t) zero = false
-  fits_stmt (IfElse e s t) (suc d) = fits e d && (fits_stmt s (inner_levels s d) && fits_stmt t (inner_levels t d))
-  fits_stmt Return d = true
-  fits_stmt (ReturnOf e) d = fits e d
-  fits_stmt (Throw e) d = fits e d
-  fits_stmt (ThrowError e) zero = false
-  fits_stmt (ThrowError e) (suc d) = fits e d
-  fits_stmt (Delete e) d = fits e d
-  fits_stmt (Set t e) d = fits t d && fits e d
-  fits_stmt (Do e) d = fits e d
+  pub within : Ex → ℕ → ℕ → Bool
+  within (Literal x) d n = true
+  within (Var at bytes) d n = true
+  within (Round e) d n = opens d n (within e)
+  within (ListOf es) d n = opens d n (within_elems es)
+  within (Object ps) d n = opens d n (within_props ps)
+  within (Member e s ss) d n = within e d n && (within_suffix s d (n - length (spell_ex e)) && within_suffixes ss d (n - length (spell_ex e) - length (spell_suffix s)))
+  within (Unary s e) d n = opens d n (within e)
+  within (Chain k a s b ls) d n = within a d n && (within b d (n - length (spell_ex a) - 1) && within_links ls d (n - length (spell_ex a) - 1 - length (spell_ex b)))
+  within (Choice c a b) d n = within c d n && opens d (n - length (spell_ex c)) (λ e m. within a e m && within b e (m - length (spell_ex a) - 1))
 
-  pub fits_item : Item → ℕ → Bool
-  fits_item (Const at bytes e) d = fits e d
-  fits_item (Let at bytes) d = true
-  fits_item (LetBe at bytes e) d = fits e d
-  fits_item (Plain s) d = fits_stmt s d
+  pub within_elems : Elems → ℕ → ℕ → Bool
+  within_elems NoElems d n = true
+  within_elems (LastElem e) d n = within e d n
+  within_elems (ThenElem e es) d n = within e d n && within_elems es d (n - length (spell_ex e) - 1)
 
-  pub fits_items : Items → ℕ → Bool
-  fits_items NoItems d = true
-  fits_items (ThenItem i is) d = fits_item i d && fits_items is d
+  pub within_prop : Prop → ℕ → ℕ → Bool
+  within_prop (Keyed w e) d n = within e d (n - 1 - 1)
+  within_prop (Quoted bytes e) d n = within e d (n - 1 - 1)
+  within_prop (Short at bytes) d n = true
 
-abbrev pub fits_reducer : Reducer → ℕ → Bool
-fits_reducer (Function at bytes ps is) zero = false
-fits_reducer (Function at bytes ps is) (suc d) = fits_items is d
+  pub within_props : Props → ℕ → ℕ → Bool
+  within_props NoProps d n = true
+  within_props (LastProp p) d n = within_prop p d n
+  within_props (ThenProp p ps) d n = within_prop p d n && within_props ps d (n - length (spell_prop p) - 1)
 
-abbrev pub fits_program : Program → ℕ → Bool
-fits_program NoReducers d = true
-fits_program (ThenReducer r rs) d = fits_reducer r d && fits_program rs d
+  pub within_suffix : Suffix → ℕ → ℕ → Bool
+  within_suffix (Dot w) d n = true
+  within_suffix (Index e) d n = opens d n (within e)
+
+  pub within_suffixes : Suffixes → ℕ → ℕ → Bool
+  within_suffixes NoSuffixes d n = true
+  within_suffixes (ThenSuffix s ss) d n = within_suffix s d n && within_suffixes ss d (n - length (spell_suffix s))
+
+  pub within_links : Links → ℕ → ℕ → Bool
+  within_links NoLinks d n = true
+  within_links (ThenLink s e ls) d n = within e d (n - 1) && within_links ls d (n - 1 - length (spell_ex e))
+
+abbrev mutual
+  pub within_stmt : Stmt → ℕ → ℕ → Bool
+  within_stmt (Block is) d n = opens d n (within_items is)
+  within_stmt Empty d n = true
+  within_stmt (IfThen e s) d n = opens d (n - 1) (λ c m. within e c m && within_stmt s (inner_levels s c) (m - length (spell_ex e) - 1))
+  within_stmt (IfElse e s t) d n = opens d (n - 1) (λ c m. within e c m && (within_stmt s (inner_levels s c) (m - length (spell_ex e) - 1) && within_stmt t (inner_levels t c) (m - length (spell_ex e) - 1 - length (spell_stmt s) - 1)))
+  within_stmt Return d n = true
+  within_stmt (ReturnOf e) d n = within e d (n - 1)
+  within_stmt (Throw e) d n = within e d (n - 1)
+  within_stmt (ThrowError e) d n = opens d (n - 1 - 1 - 1) (within e)
+  within_stmt (Delete e) d n = within e d (n - 1)
+  within_stmt (Set t e) d n = within t d n && within e d (n - length (spell_ex t) - 1)
+  within_stmt (Do e) d n = within e d n
+
+  pub within_item : Item → ℕ → ℕ → Bool
+  within_item (Const at bytes e) d n = within e d (n - 1 - 1 - 1)
+  within_item (Let at bytes) d n = true
+  within_item (LetBe at bytes e) d n = within e d (n - 1 - 1 - 1)
+  within_item (Plain s) d n = within_stmt s d n
+
+  pub within_items : Items → ℕ → ℕ → Bool
+  within_items NoItems d n = true
+  within_items (ThenItem i is) d n = within_item i d n && within_items is d (n - length (spell_item i))
+
+abbrev pub within_reducer : Reducer → ℕ → ℕ → Bool
+within_reducer (Function at bytes ps is) d n = opens d (n - 1 - 1) (λ c m. within_items is c (m - length (spell_params ps) - 1 - 1))
+
+abbrev pub within_program : Program → ℕ → ℕ → Bool
+within_program NoReducers d n = true
+within_program (ThenReducer r rs) d n = within_reducer r d n && within_program rs d (n - length (spell_reducer r))
