@@ -3,3 +3,4 @@ pub mod Tests
 pub mod Lists
 pub mod Languages
 pub mod Expressions
+pub mod Statements
