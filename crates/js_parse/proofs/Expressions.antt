@@ -7,11 +7,11 @@ use Rattle.script_grammar.specs.Tokens.{Tok, Name, Text, Fixed, Toks}
 use Rattle.script_grammar.specs.Trees.{Lit, Number, Word, Named, Ex, Literal, Var, Round, ListOf, Object, Member, Unary, Chain, Choice, Elems, NoElems, LastElem, ThenElem, Prop, Keyed, Quoted, Short, Props, NoProps, LastProp, ThenProp, Suffix, Dot, Index, Suffixes, NoSuffixes, ThenSuffix, Links, NoLinks, ThenLink}
 use Rattle.script_grammar.specs.Spelling.{spell_lit, spell_word, spell_ex, spell_elems, spell_prop, spell_props, spell_suffix, spell_suffixes, spell_links}
 use Rattle.script_grammar.specs.Rules.{level_of, is_unary, is_atom, Binds, BindsElems, BindsProp, BindsProps, BindsSuffix, BindsSuffixes, BindsLinks, within, within_elems, within_prop, within_props, within_suffix, within_suffixes, within_links}
-use Rattle.js_parse.specs.Steps.{Why, Unexpected, TooNested, Parser, ◌>>=◌, pure, fail, take, too_deep, first, look, many}
+use Rattle.js_parse.specs.Steps.{Why, Unexpected, TooNested, Parser, ◌>>=◌, pure, fail, take, too_deep, first, look, many, many_by}
 use Rattle.js_parse.specs.Tests.{fixed, name_of, text_of, word_of, lit_of, unary_of, link_of, sees, sees_unary, AtomForm, RoundForm, ListForm, ObjectForm, VarForm, OtherForm, atom_form, PropForm, NameForm, QuotedForm, WordForm, prop_form, begins_suffix, begins_link}
-use Rattle.js_parse.specs.Parser.{Below, expect, opened, named, literal, rounded, elems, listed, valued, short_by, prop_by, prop, props, objected, atom_by, atom, index, dot, suffix_by, suffix, suffixes, member, post, signed, unary_by, unary, then_link, chained, link, links, chain, choice, choice_by, expr}
+use Rattle.js_parse.specs.Parser.{Below, expect, opened, named, literal, rounded, elems, separated_by, listed, valued, short_by, prop_by, prop, props, objected, atom_by, atom, index, dot, suffix_by, suffix, suffixes, member, post, signed, unary_by, unary, then_link, chained, link, links, chain, choice, choice_by, expr}
 use Rattle.js_parse.proofs.Good.{Lang, Example, Good, Seq, Nothing, Consumes, Behind, good_pure, good_look, good_sub, good_bind}
-use Rattle.js_parse.proofs.Lists.{good_many, good_separated}
+use Rattle.js_parse.proofs.Lists.{good_many, good_separated, many_is, separated_is}
 use Rattle.js_parse.proofs.Languages.{Just, NameAt, TextAt, WordAt, LitAt, SignAt, LinkSign, good_sign, good_name, good_text, good_key, good_lit, good_unary_sign, good_link_sign, Of, both_fit, ExAt, Goods, GoodBelow, good_opened, deep_sign}
 use Rattle.js_parse.proofs.Tests.{of_unary}
 
@@ -293,3 +293,16 @@ pub good_expr : (d : ℕ) (i : Option Below) → GoodBelow d i → Good (ExAt 8 
 unfolding ChoiceAt
 good_expr d i g = good_sub _ (ExAt 8 d) _ (λ n p ts h. (h.5 ∙ rw h.3.0 h.4.0, h.4.1 h.3.1, h.4.2 n (rw h.3.0 refl) h.3.2))
     (good_bind (ExAt 7 d) (λ c. ChoiceAt c d) (chain i 6) _ (good_chain d i g 6 (omega arith)) (λ c. good_look (ChoiceAt c d) _ (λ t. by_choice c d i g (sees Question t))))
+
+-- ---- the lists without their bounds
+pub elems_is : (d : ℕ) (b : Below) → Goods d b → (ts : Toks) → elems b ts ≡ look (λ c. separated_by b.expr NoElems LastElem ThenElem (elems b) (sees CloseSquare c)) ts
+elems_is d b g ts = separated_is (ExAt 8 d) CloseSquare b.expr NoElems LastElem ThenElem g.expr (consumes_ex 8 d) ts
+
+pub props_is : (d : ℕ) (b : Below) → Goods d b → (ts : Toks) → props b ts ≡ look (λ c. separated_by (prop b) NoProps LastProp ThenProp (props b) (sees CloseBrace c)) ts
+props_is d b g ts = separated_is (PropAt d) CloseBrace (prop b) NoProps LastProp ThenProp (good_look (PropAt d) _ (λ c. by_prop d b g (prop_form c))) (λ n a x h. rw h.0 (some_prop a)) ts
+
+pub suffixes_is : (d : ℕ) (i : Option Below) → GoodBelow d i → (ts : Toks) → suffixes i ts ≡ look (many_by begins_suffix (suffix i) NoSuffixes ThenSuffix (suffixes i)) ts
+suffixes_is d i g ts = many_is (SuffixAt d) begins_suffix (suffix i) NoSuffixes ThenSuffix (good_look (SuffixAt d) _ (λ c. by_suffix d i g (sees OpenSquare c))) (λ n a x h. rw h.0 (some_suffix a)) ts
+
+pub links_is : (k d : ℕ) (p : Parser Ex) → k < 6 → Good (ExAt (suc k) d) p → (ts : Toks) → links k p ts ≡ look (many_by (begins_link k) (link k p) NoLinks then_link (links k p)) ts
+links_is k d p h g ts = many_is (LinkAt k d) (begins_link k) (link k p) NoLinks then_link (good_link k d p h g) (λ n a x h. rw h.0 omega arith) ts

@@ -4,3 +4,5 @@ pub mod Lists
 pub mod Languages
 pub mod Expressions
 pub mod Statements
+pub mod Takes
+pub mod Follow

@@ -16,9 +16,7 @@ good_expect s = good_take (fixed s) (Fixed s) tt (is_fixed s)
 pub taken_some : {A : Type 0} (f : Tok → Option A) → Consumes (Taken f)
 taken_some f n a x h = rw h.2 omega arith
 
-module _ {A C : Type 0} (I : Lang A) (L : Lang C) (goes_on : Tok → Bool) (item : Parser A) (nil : C) (cons : A → C → C)
-    (good : Good I item) (is_nil : (n : ℕ) → L n nil []) (is_cons : (n : ℕ) (a : A) (c : C) (x y : Toks) → I n a x → L (n - length x) c y → L n (cons a c) (x ++ y))
-    (some : Consumes I) where
+module _ {A C : Type 0} (I : Lang A) (goes_on : Tok → Bool) (item : Parser A) (nil : C) (cons : A → C → C) (good : Good I item) (some : Consumes I) where
   pub behind_many : Behind (λ (more : Parser C). look (many_by goes_on item nil cons more))
   behind_many p q [] e = refl
   behind_many p q (t ∷ ts) e = go (goes_on t)
@@ -27,6 +25,12 @@ module _ {A C : Type 0} (I : Lang A) (L : Lang C) (goes_on : Tok → Bool) (item
       go true = behind_item I item (λ (more : Parser C) (a : A). more >>= λ xs. pure (cons a xs)) good some (λ a. within_then (λ xs. pure (cons a xs))) p q (t ∷ ts) e
       go false = refl
 
+  pub many_is : (ts : Toks) → many goes_on item nil cons ts ≡ look (many_by goes_on item nil cons (many goes_on item nil cons)) ts
+  many_is ts = again_is _ behind_many ts
+
+module _ {A C : Type 0} (I : Lang A) (L : Lang C) (goes_on : Tok → Bool) (item : Parser A) (nil : C) (cons : A → C → C)
+    (good : Good I item) (is_nil : (n : ℕ) → L n nil []) (is_cons : (n : ℕ) (a : A) (c : C) (x y : Toks) → I n a x → L (n - length x) c y → L n (cons a c) (x ++ y))
+    (some : Consumes I) where
   none : Good L (pure nil)
   none = good_sub (Nothing nil) L (pure nil) (λ w c ts h. rw (h.0, h.1) (is_nil w)) (good_pure nil)
 
@@ -45,19 +49,9 @@ module _ {A C : Type 0} (I : Lang A) (L : Lang C) (goes_on : Tok → Bool) (item
       go false = none
 
   pub good_many : Good L (many goes_on item nil cons)
-  good_many = good_again L _ (nil, [], is_nil 0) behind_many (λ p g. good_look L _ (by p g))
+  good_many = good_again L _ (nil, [], is_nil 0) (behind_many I goes_on item nil cons good some) (λ p g. good_look L _ (by p g))
 
-  pub many_is : (ts : Toks) → many goes_on item nil cons ts ≡ look (many_by goes_on item nil cons (many goes_on item nil cons)) ts
-  many_is ts = again_is _ behind_many ts
-
-module _ {A C : Type 0} (I : Lang A) (L : Lang C) (closing : Sign) (item : Parser A) (nil : C) (last : A → C) (then_more : A → C → C)
-    (good : Good I item) (is_nil : (n : ℕ) → L n nil []) (is_last : (n : ℕ) (a : A) (x : Toks) → I n a x → L n (last a) x)
-    (is_then : (n : ℕ) (a : A) (c : C) (x y : Toks) → I n a x → L (n - length x - 1) c y → L n (then_more a c) (x ++ Fixed Comma ∷ y))
-    (some : Consumes I) where
-  -- what stands behind an item
-  Tail : A → Lang C
-  Tail a n c ts = ((c ≡ last a) × (ts ≡ [])) ⊎ ((d : C) × (y : Toks) × L (n - 1) d y × (c ≡ then_more a d) × (ts ≡ Fixed Comma ∷ y))
-
+module _ {A C : Type 0} (I : Lang A) (closing : Sign) (item : Parser A) (nil : C) (last : A → C) (then_more : A → C → C) (good : Good I item) (some : Consumes I) where
   within_comma : (a : A) → Within (λ (more : Parser C). look (λ c. comma_by last then_more a more (sees Comma c)))
   within_comma a p q ts e = go (sees Comma (first ts))
     where
@@ -71,6 +65,17 @@ module _ {A C : Type 0} (I : Lang A) (L : Lang C) (closing : Sign) (item : Parse
       go : (b : Bool) → separated_by item nil last then_more p b ts ≡ separated_by item nil last then_more q b ts
       go true = refl
       go false = behind_item I item (λ (more : Parser C) (a : A). look (λ c. comma_by last then_more a more (sees Comma c))) good some within_comma p q ts e
+
+  pub separated_is : (ts : Toks) → separated closing item nil last then_more ts ≡ look (λ c. separated_by item nil last then_more (separated closing item nil last then_more) (sees closing c)) ts
+  separated_is ts = again_is _ behind_separated ts
+
+module _ {A C : Type 0} (I : Lang A) (L : Lang C) (closing : Sign) (item : Parser A) (nil : C) (last : A → C) (then_more : A → C → C)
+    (good : Good I item) (is_nil : (n : ℕ) → L n nil []) (is_last : (n : ℕ) (a : A) (x : Toks) → I n a x → L n (last a) x)
+    (is_then : (n : ℕ) (a : A) (c : C) (x y : Toks) → I n a x → L (n - length x - 1) c y → L n (then_more a c) (x ++ Fixed Comma ∷ y))
+    (some : Consumes I) where
+  -- what stands behind an item
+  Tail : A → Lang C
+  Tail a n c ts = ((c ≡ last a) × (ts ≡ [])) ⊎ ((d : C) × (y : Toks) × L (n - 1) d y × (c ≡ then_more a d) × (ts ≡ Fixed Comma ∷ y))
 
   good_comma : (more : Parser C) → Good L more → (a : A) (b : Bool) → Good (Tail a) (comma_by last then_more a more b)
   unfolding Tail
@@ -93,7 +98,4 @@ module _ {A C : Type 0} (I : Lang A) (L : Lang C) (closing : Sign) (item : Parse
   by_closing more g false = good_sub _ L _ met (good_bind I Tail item _ good (λ a. good_look (Tail a) _ (λ c. good_comma more g a (sees Comma c))))
 
   pub good_separated : Good L (separated closing item nil last then_more)
-  good_separated = good_again L _ (nil, [], is_nil 0) behind_separated (λ p g. good_look L _ (λ c. by_closing p g (sees closing c)))
-
-  pub separated_is : (ts : Toks) → separated closing item nil last then_more ts ≡ look (λ c. separated_by item nil last then_more (separated closing item nil last then_more) (sees closing c)) ts
-  separated_is ts = again_is _ behind_separated ts
+  good_separated = good_again L _ (nil, [], is_nil 0) (behind_separated I closing item nil last then_more good some) (λ p g. good_look L _ (λ c. by_closing p g (sees closing c)))

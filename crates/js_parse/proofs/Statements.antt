@@ -9,11 +9,11 @@ use Rattle.script_grammar.specs.Tokens.{Tok, Name, Kept, Integer, Text, Fixed, T
 use Rattle.script_grammar.specs.Trees.{Named, Ex, Literal, Var, Round, ListOf, Object, Member, Unary, Chain, Choice, Dot, NoSuffixes, Stmt, Block, Empty, IfThen, IfElse, Return, ReturnOf, Throw, ThrowError, Delete, Set, Do, Item, Const, Let, LetBe, Plain, Items, NoItems, ThenItem, Params, One, Two, Reducer, Function, Program, NoReducers, ThenReducer}
 use Rattle.script_grammar.specs.Spelling.{spell_ex, spell_stmt, spell_item, spell_items, spell_params, spell_reducer, spell_program}
 use Rattle.script_grammar.specs.Rules.{is_atom, is_member, is_target, Binds, within, opens_brace, begins_brace, is_open, RightStmt, RightItem, RightItems, RightReducer, Right, inner_levels, within_stmt, within_item, within_items, within_reducer, within_program}
-use Rattle.js_parse.specs.Steps.{Why, Unexpected, TooNested, Parser, ◌>>=◌, pure, fail, take, first, look, many, finish}
+use Rattle.js_parse.specs.Steps.{Why, Unexpected, TooNested, Parser, ◌>>=◌, pure, fail, take, first, look, many, many_by, finish}
 use Rattle.js_parse.specs.Tests.{fixed, name_of, is_some, sees, sees_word, StmtForm, BlockForm, EmptyForm, IfForm, ReturnForm, ThrowForm, DeleteForm, ExprForm, stmt_form, ItemForm, ConstForm, LetForm, PlainForm, item_form, in_block}
 use Rattle.js_parse.specs.Parser.{Below, expect, keyword, opened, expr, post, items, block, inner_by, inner, else_by, may_else, conditional, ended, return_by, thrown_error, throw_by, deleted, assign_by, may_assign, stmt_by, stmt, let_by, item_by, item, below, params_by, params, reducer_body, reducer, reducers, program}
 use Rattle.js_parse.proofs.Good.{Lang, Example, Good, GoodAt, Seq, Nothing, End, Begun, Consumes, good_pure, good_fail, good_look, good_look_at, good_at, good_begun, good_sub, good_sub_at, good_bind, good_finish}
-use Rattle.js_parse.proofs.Lists.{good_many}
+use Rattle.js_parse.proofs.Lists.{good_many, many_is}
 use Rattle.js_parse.proofs.Languages.{Just, JustWord, NameAt, good_sign, good_word, good_name, Of, both_fit, ExAt, StmtAt, ItemAt, Goods, GoodBelow, good_opened, deep_sign}
 use Rattle.js_parse.proofs.Expressions.{nothing, consumes_ex, some_ex, append_some, good_post, good_unary, good_expr}
 
@@ -375,3 +375,10 @@ pub good_program : (d : ℕ) → Good (ProgramAt d) (program d)
 unfolding program
 good_program d = good_sub _ (ProgramAt d) _ (λ n p ts h. let i = h.4 in rw (h.5, h.3.0, i.5, i.3, i.4.1, i.4.0) (append-nil (spell_program h.0), h.3.1, h.3.2))
     (good_bind (ProgramAt d) _ (reducers (below d)) _ (good_reducers d (below d) (good_below d)) (λ rs. good_bind End _ finish _ good_finish (λ _. good_pure rs)))
+
+-- ---- the lists without their bounds
+pub items_is : (d : ℕ) (b : Below) → Goods d b → (ts : Toks) → items b ts ≡ look (many_by in_block b.item NoItems ThenItem (items b)) ts
+items_is d b g ts = many_is (ItemAt d) in_block b.item NoItems ThenItem g.item (λ n a x h. rw h.0 (some_item a)) ts
+
+pub reducers_is : (d : ℕ) (i : Option Below) → GoodBelow d i → (ts : Toks) → reducers i ts ≡ look (many_by (λ _. true) (reducer i) NoReducers ThenReducer (reducers i)) ts
+reducers_is d i g ts = many_is (ReducerAt d) (λ _. true) (reducer i) NoReducers ThenReducer (good_reducer d i g) (λ n a x h. rw h.0 (some_reducer a)) ts
