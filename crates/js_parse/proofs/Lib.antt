@@ -6,3 +6,4 @@ pub mod Expressions
 pub mod Statements
 pub mod Takes
 pub mod Follow
+pub mod Accept

@@ -94,7 +94,7 @@ module _ {A C : Type 0} (goes_on : Tok → Bool) (item : Parser A) (nil : C) (co
   Stops [] = Unit {0}
   Stops (t ∷ ts) = goes_on t ≡ false
 
-  stopped : (rest : Toks) → Stops rest → look (many_by goes_on item nil cons m) rest ≡ Ok (nil, rest)
+  pub stopped : (rest : Toks) → Stops rest → look (many_by goes_on item nil cons m) rest ≡ Ok (nil, rest)
 
   stopped [] h = refl
   stopped (t ∷ ts) h = rw h refl
@@ -106,6 +106,9 @@ module _ {A C : Type 0} (goes_on : Tok → Bool) (item : Parser A) (nil : C) (co
   many_cons c e t x y a cs rest g h k = takes_same (λ n. c n && e (n - length (t ∷ x))) m (item >>= λ a. m >>= λ cs. pure (cons a cs)) ((t ∷ x) ++ y) (cons a cs) rest
       (is (((t ∷ x) ++ y) ++ rest) ∙ rw g refl)
       (takes_bind c e item (λ a. m >>= λ cs. pure (cons a cs)) (t ∷ x) y a (cons a cs) rest h (takes_map e m (λ cs. pure (cons a cs)) y cs (cons a cs) rest k refl))
+
+  pub many_cons_at : (c e : ℕ → Bool) (x : Toks) (t : Tok) (x' y : Toks) (a : A) (cs : C) (rest : Toks) → x ≡ t ∷ x' → goes_on t ≡ true → Takes c item x a (y ++ rest) → Takes e m y cs rest → Takes (λ n. c n && e (n - length x)) m (x ++ y) (cons a cs) rest
+  many_cons_at c e x t x' y a cs rest q g h k = subst (λ (w : Toks). Takes (λ n. c n && e (n - length w)) m (w ++ y) (cons a cs) rest) (sym q) (many_cons c e t x' y a cs rest g (subst (λ (w : Toks). Takes c item w a (y ++ rest)) q h) k)
 
 module _ {A C : Type 0} (closing : Sign) (item : Parser A) (nil : C) (last : A → C) (then_more : A → C → C) (m : Parser C)
     (is : (ts : Toks) → m ts ≡ look (λ c. separated_by item nil last then_more m (sees closing c)) ts) (no_comma : sees Comma (Some (Fixed closing)) ≡ false) (closes : sees closing (Some (Fixed closing)) ≡ true) where
@@ -126,3 +129,11 @@ module _ {A C : Type 0} (closing : Sign) (item : Parser A) (nil : C) (last : A �
       (takes_bind c (λ n. e (n - 1)) item (λ a. look (λ c. comma_by last then_more a m (sees Comma c))) (t ∷ x) (Fixed Comma ∷ y) a (then_more a cs) rest k
         (takes_same (λ n. e (n - 1)) (look (λ c. comma_by last then_more a m (sees Comma c))) (expect Comma >>= λ _. m >>= λ cs. pure (then_more a cs)) (Fixed Comma ∷ y) (then_more a cs) rest refl
           (behind_sign e Comma (m >>= λ cs. pure (then_more a cs)) y (then_more a cs) rest (takes_map e m (λ cs. pure (then_more a cs)) y cs (then_more a cs) rest l refl))))
+
+  pub separated_last_at : (c : ℕ → Bool) (x : Toks) (t : Tok) (x' : Toks) (a : A) (rest : Toks) → x ≡ t ∷ x' → sees closing (Some t) ≡ false → Takes c item x a (Fixed closing ∷ rest) → Takes c m x (last a) (Fixed closing ∷ rest)
+  separated_last_at c x t x' a rest q h k = subst (λ (w : Toks). Takes c m w (last a) (Fixed closing ∷ rest)) (sym q) (separated_last c t x' a rest h (subst (λ (w : Toks). Takes c item w a (Fixed closing ∷ rest)) q k))
+
+  pub separated_then_at : (c e : ℕ → Bool) (x : Toks) (t : Tok) (x' y : Toks) (a : A) (cs : C) (rest : Toks) → x ≡ t ∷ x' → sees closing (Some t) ≡ false → Takes c item x a (Fixed Comma ∷ (y ++ rest)) → Takes e m y cs rest
+      → Takes (λ n. c n && e (n - length x - 1)) m (x ++ Fixed Comma ∷ y) (then_more a cs) rest
+  separated_then_at c e x t x' y a cs rest q h k l = subst (λ (w : Toks). Takes (λ n. c n && e (n - length w - 1)) m (w ++ Fixed Comma ∷ y) (then_more a cs) rest) (sym q)
+      (separated_then c e t x' y a cs rest h (subst (λ (w : Toks). Takes c item w a (Fixed Comma ∷ (y ++ rest))) q k) l)
