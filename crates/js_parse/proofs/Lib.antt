@@ -7,3 +7,4 @@ pub mod Statements
 pub mod Takes
 pub mod Follow
 pub mod Accept
+pub mod AcceptStatements
