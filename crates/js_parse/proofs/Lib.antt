@@ -8,3 +8,4 @@ pub mod Takes
 pub mod Follow
 pub mod Accept
 pub mod AcceptStatements
+pub mod Exact

@@ -2,3 +2,4 @@ pub mod Tokens
 pub mod Trees
 pub mod Spelling
 pub mod Rules
+pub mod Programs
