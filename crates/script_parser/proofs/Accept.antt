@@ -8,15 +8,15 @@ use Rattle.script_grammar.specs.Tokens.{Tok, Name, Kept, Integer, Text, Fixed, T
 use Rattle.script_grammar.specs.Trees.{Lit, Number, Quote, True, False, Null, Undefined, Word, Named, Reserve, Ex, Literal, Var, Round, ListOf, Object, Member, Unary, Chain, Choice, Elems, NoElems, LastElem, ThenElem, Prop, Keyed, Quoted, Short, Props, NoProps, LastProp, ThenProp, Suffix, Dot, Index, Suffixes, NoSuffixes, ThenSuffix, Links, NoLinks, ThenLink}
 use Rattle.script_grammar.specs.Spelling.{spell_lit, spell_word, spell_ex, spell_elems, spell_prop, spell_props, spell_suffix, spell_suffixes, spell_links}
 use Rattle.script_grammar.specs.Rules.{level_of, is_unary, is_atom, Binds, BindsElems, BindsProp, BindsProps, BindsSuffix, BindsSuffixes, BindsLinks, opens, within, within_elems, within_prop, within_props, within_suffix, within_suffixes, within_links}
-use Rattle.js_parse.specs.Steps.{Why, Unexpected, TooNested, Parser, ◌>>=◌, pure, take, too_deep, first, look, many_by, many}
-use Rattle.js_parse.specs.Tests.{fixed, name_of, text_of, word_of, lit_of, unary_of, link_of, sees, sees_unary, begins_suffix, begins_link}
-use Rattle.js_parse.specs.Parser.{Below, expect, opened, named, literal, rounded, elems, listed, valued, short_by, prop_by, prop, props, objected, atom_by, atom, index, dot, suffix_by, suffix, suffixes, member, post, signed, unary_by, unary, then_link, chained, link, links, chain, choice, choice_by, expr, stmt, item, below}
-use Rattle.js_parse.proofs.Tests.{is_fixed, is_word, is_lit, is_unary_sign, is_link}
-use Rattle.js_parse.proofs.Languages.{Goods, GoodBelow}
-use Rattle.js_parse.proofs.Expressions.{binds_more, good_chain, elems_is, props_is, suffixes_is, links_is}
-use Rattle.js_parse.proofs.Statements.{good_below}
-use Rattle.js_parse.proofs.Takes.{Takes, takes_as, takes_same, takes_bind, takes_first, takes_map, take_token, take_sign, behind, behind_sign, takes_deep, takes_pure, stopped, many_nil, many_cons_at, separated_nil, separated_last_at, separated_then_at}
-use Rattle.js_parse.proofs.Follow.{stop, stop_link, no_suffix, no_link, no_question, starts, begun, no_square, no_close_brace}
+use Rattle.script_parser.specs.Steps.{Why, Unexpected, TooNested, Parser, ◌>>=◌, pure, take, too_deep, first, look, many_by, many}
+use Rattle.script_parser.specs.Tests.{fixed, name_of, text_of, word_of, lit_of, unary_of, link_of, sees, sees_unary, begins_suffix, begins_link}
+use Rattle.script_parser.specs.Parser.{Below, expect, opened, named, literal, rounded, elems, listed, valued, short_by, prop_by, prop, props, objected, atom_by, atom, index, dot, suffix_by, suffix, suffixes, member, post, signed, unary_by, unary, then_link, chained, link, links, chain, choice, choice_by, expr, stmt, item, below}
+use Rattle.script_parser.proofs.Tests.{is_fixed, is_word, is_lit, is_unary_sign, is_link}
+use Rattle.script_parser.proofs.Languages.{Goods, GoodBelow}
+use Rattle.script_parser.proofs.Expressions.{binds_more, good_chain, elems_is, props_is, suffixes_is, links_is}
+use Rattle.script_parser.proofs.Statements.{good_below}
+use Rattle.script_parser.proofs.Takes.{Takes, takes_as, takes_same, takes_bind, takes_first, takes_map, take_token, take_sign, behind, behind_sign, takes_deep, takes_pure, stopped, many_nil, many_cons_at, separated_nil, separated_last_at, separated_then_at}
+use Rattle.script_parser.proofs.Follow.{stop, stop_link, no_suffix, no_link, no_question, starts, begun, no_square, no_close_brace}
 
 -- the parsers below d levels, as they are given one level up
 abbrev pub under : ℕ → Below

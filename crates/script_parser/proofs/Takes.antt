@@ -6,10 +6,10 @@ use Rattle.script_text.specs.declared.sign.Sign.TheVariants.{Comma}
 use Rattle.script_text.specs.declared.word.Reserved.{Reserved}
 use Rattle.script_grammar.specs.Tokens.{Tok, Kept, Fixed, Toks}
 use Rattle.script_grammar.specs.Rules.{opens}
-use Rattle.js_parse.specs.Steps.{Why, Unexpected, TooNested, Outcome, Parser, and_then, ◌>>=◌, pure, taken, take, refused, too_deep, first, look, many_by, many}
-use Rattle.js_parse.specs.Tests.{fixed, kept_as, sees}
-use Rattle.js_parse.specs.Parser.{expect, keyword, comma_by, separated_by}
-use Rattle.js_parse.proofs.Tests.{is_fixed, is_kept}
+use Rattle.script_parser.specs.Steps.{Why, Unexpected, TooNested, Outcome, Parser, and_then, ◌>>=◌, pure, taken, take, refused, too_deep, first, look, many_by, many}
+use Rattle.script_parser.specs.Tests.{fixed, kept_as, sees}
+use Rattle.script_parser.specs.Parser.{expect, keyword, comma_by, separated_by}
+use Rattle.script_parser.proofs.Tests.{is_fixed, is_kept}
 
 -- x is read as a before rest; the count of tokens says which of them open no level too many, here all
 abbrev pub Reads : {A : Type 0} → (ℕ → Bool) → Parser A → Toks → A → Toks → Type 0

@@ -10,7 +10,7 @@ use Rattle.script_grammar.specs.Tokens.{Tok, Name, Kept, Integer, Text, Fixed, T
 use Rattle.script_grammar.specs.Trees.{Lit, Number, Quote, True, False, Null, Undefined, Ex, Literal, Var, Round, ListOf, Object, Member, Unary, Chain, Choice}
 use Rattle.script_grammar.specs.Spelling.{spell_lit, spell_ex, spell_suffix, spell_suffixes, spell_links}
 use Rattle.script_grammar.specs.Rules.{level_of, is_unary, Binds, opens_brace}
-use Rattle.js_parse.specs.Tests.{is_some, sees, sees_word, sees_unary, unary_of, link_of, begins_suffix, begins_link, in_block, StmtForm, ExprForm, stmt_form, ItemForm, PlainForm, item_form}
+use Rattle.script_parser.specs.Tests.{is_some, sees, sees_word, sees_unary, unary_of, link_of, begins_suffix, begins_link, in_block, StmtForm, ExprForm, stmt_form, ItemForm, PlainForm, item_form}
 
 -- the first level of which a token goes on with an expression; 8 where it goes on with none
 abbrev pub stop : Option Tok → ℕ

@@ -9,13 +9,13 @@ use Rattle.script_grammar.specs.Tokens.{Tok, Name, Kept, Integer, Text, Fixed, T
 use Rattle.script_grammar.specs.Trees.{Named, Ex, Literal, Var, Round, ListOf, Object, Member, Unary, Chain, Choice, Dot, NoSuffixes, Stmt, Block, Empty, IfThen, IfElse, Return, ReturnOf, Throw, ThrowError, Delete, Set, Do, Item, Const, Let, LetBe, Plain, Items, NoItems, ThenItem, Params, One, Two, Reducer, Function, Program, NoReducers, ThenReducer}
 use Rattle.script_grammar.specs.Spelling.{spell_ex, spell_stmt, spell_item, spell_items, spell_params, spell_reducer, spell_program}
 use Rattle.script_grammar.specs.Rules.{is_atom, is_member, is_target, Binds, within, opens_brace, begins_brace, is_open, RightStmt, RightItem, RightItems, RightReducer, Right, inner_levels, within_stmt, within_item, within_items, within_reducer, within_program}
-use Rattle.js_parse.specs.Steps.{Why, Unexpected, TooNested, Parser, ◌>>=◌, pure, fail, take, first, look, many, many_by, finish}
-use Rattle.js_parse.specs.Tests.{fixed, name_of, is_some, sees, sees_word, StmtForm, BlockForm, EmptyForm, IfForm, ReturnForm, ThrowForm, DeleteForm, ExprForm, stmt_form, ItemForm, ConstForm, LetForm, PlainForm, item_form, in_block}
-use Rattle.js_parse.specs.Parser.{Below, expect, keyword, opened, expr, post, items, block, inner_by, inner, else_by, may_else, conditional, ended, return_by, thrown_error, throw_by, deleted, assign_by, may_assign, stmt_by, stmt, let_by, item_by, item, below, params_by, params, reducer_body, reducer, reducers, program}
-use Rattle.js_parse.proofs.Good.{Lang, Example, Good, GoodAt, Seq, Nothing, End, Begun, Consumes, good_pure, good_fail, good_look, good_look_at, good_at, good_begun, good_sub, good_sub_at, good_bind, good_finish}
-use Rattle.js_parse.proofs.Lists.{good_many, many_is}
-use Rattle.js_parse.proofs.Languages.{Just, JustWord, NameAt, good_sign, good_word, good_name, Of, both_fit, ExAt, StmtAt, ItemAt, Goods, GoodBelow, good_opened, deep_sign}
-use Rattle.js_parse.proofs.Expressions.{nothing, consumes_ex, some_ex, append_some, good_post, good_unary, good_expr}
+use Rattle.script_parser.specs.Steps.{Why, Unexpected, TooNested, Parser, ◌>>=◌, pure, fail, take, first, look, many, many_by, finish}
+use Rattle.script_parser.specs.Tests.{fixed, name_of, is_some, sees, sees_word, StmtForm, BlockForm, EmptyForm, IfForm, ReturnForm, ThrowForm, DeleteForm, ExprForm, stmt_form, ItemForm, ConstForm, LetForm, PlainForm, item_form, in_block}
+use Rattle.script_parser.specs.Parser.{Below, expect, keyword, opened, expr, post, items, block, inner_by, inner, else_by, may_else, conditional, ended, return_by, thrown_error, throw_by, deleted, assign_by, may_assign, stmt_by, stmt, let_by, item_by, item, below, params_by, params, reducer_body, reducer, reducers, program}
+use Rattle.script_parser.proofs.Good.{Lang, Example, Good, GoodAt, Seq, Nothing, End, Begun, Consumes, good_pure, good_fail, good_look, good_look_at, good_at, good_begun, good_sub, good_sub_at, good_bind, good_finish}
+use Rattle.script_parser.proofs.Lists.{good_many, many_is}
+use Rattle.script_parser.proofs.Languages.{Just, JustWord, NameAt, good_sign, good_word, good_name, Of, both_fit, ExAt, StmtAt, ItemAt, Goods, GoodBelow, good_opened, deep_sign}
+use Rattle.script_parser.proofs.Expressions.{nothing, consumes_ex, some_ex, append_some, good_post, good_unary, good_expr}
 
 abbrev pub ItemsAt : ℕ → Lang Items
 ItemsAt d = Of spell_items RightItems (λ is n. within_items is d n)

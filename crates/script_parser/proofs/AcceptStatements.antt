@@ -9,14 +9,14 @@ use Rattle.script_grammar.specs.Tokens.{Tok, Name, Kept, Fixed, Toks}
 use Rattle.script_grammar.specs.Trees.{Ex, Stmt, Block, Empty, IfThen, IfElse, Return, ReturnOf, Throw, ThrowError, Delete, Set, Do, Item, Const, Let, LetBe, Plain, Items, NoItems, ThenItem, Params, One, Two, Reducer, Function, Program, NoReducers, ThenReducer}
 use Rattle.script_grammar.specs.Spelling.{spell_ex, spell_stmt, spell_item, spell_items, spell_params, spell_reducer, spell_program}
 use Rattle.script_grammar.specs.Rules.{is_member, is_target, Binds, opens, within, opens_brace, begins_brace, is_open, RightStmt, RightItem, RightItems, RightReducer, Right, inner_levels, within_stmt, within_item, within_items, within_reducer, within_program}
-use Rattle.js_parse.specs.Steps.{Why, Unexpected, TooNested, Parser, ◌>>=◌, pure, take, first, look, many_by, many, finish}
-use Rattle.js_parse.specs.Tests.{fixed, name_of, is_some, sees, sees_word, StmtForm, ExprForm, stmt_form, ItemForm, PlainForm, item_form, in_block}
-use Rattle.js_parse.specs.Parser.{Below, expect, keyword, opened, expr, post, items, block, inner_by, inner, else_by, may_else, conditional, ended, return_by, thrown_error, throw_by, deleted, assign_by, may_assign, stmt_by, stmt, let_by, item_by, item, below, params_by, params, reducer_body, reducer, reducers, program}
-use Rattle.js_parse.proofs.Tests.{is_fixed}
-use Rattle.js_parse.proofs.Statements.{good_below, items_is, reducers_is}
-use Rattle.js_parse.proofs.Takes.{Takes, takes_as, takes_same, takes_bind, takes_first, takes_map, take_token, take_sign, take_word, behind, behind_sign, behind_word, takes_pure, many_nil, many_cons_at}
-use Rattle.js_parse.proofs.Follow.{stop, starts, Front, begun, no_semicolon, no_new, no_else, no_brace, expr_form, plain_form, starts_in_block}
-use Rattle.js_parse.proofs.Accept.{under, goods_under, takes_opened, Accepts, accept}
+use Rattle.script_parser.specs.Steps.{Why, Unexpected, TooNested, Parser, ◌>>=◌, pure, take, first, look, many_by, many, finish}
+use Rattle.script_parser.specs.Tests.{fixed, name_of, is_some, sees, sees_word, StmtForm, ExprForm, stmt_form, ItemForm, PlainForm, item_form, in_block}
+use Rattle.script_parser.specs.Parser.{Below, expect, keyword, opened, expr, post, items, block, inner_by, inner, else_by, may_else, conditional, ended, return_by, thrown_error, throw_by, deleted, assign_by, may_assign, stmt_by, stmt, let_by, item_by, item, below, params_by, params, reducer_body, reducer, reducers, program}
+use Rattle.script_parser.proofs.Tests.{is_fixed}
+use Rattle.script_parser.proofs.Statements.{good_below, items_is, reducers_is}
+use Rattle.script_parser.proofs.Takes.{Takes, takes_as, takes_same, takes_bind, takes_first, takes_map, take_token, take_sign, take_word, behind, behind_sign, behind_word, takes_pure, many_nil, many_cons_at}
+use Rattle.script_parser.proofs.Follow.{stop, starts, Front, begun, no_semicolon, no_new, no_else, no_brace, expr_form, plain_form, starts_in_block}
+use Rattle.script_parser.proofs.Accept.{under, goods_under, takes_opened, Accepts, accept}
 
 -- no `else` comes next
 abbrev pub NoElse : Toks → Type 0

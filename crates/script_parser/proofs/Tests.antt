@@ -12,7 +12,7 @@ use Rattle.script_grammar.specs.Tokens.{Tok, Name, Kept, Integer, Text, Fixed}
 use Rattle.script_grammar.specs.Trees.{Lit, Number, Quote, True, False, Null, Undefined, Word, Named, Reserve}
 use Rattle.script_grammar.specs.Spelling.{spell_lit, spell_word}
 use Rattle.script_grammar.specs.Rules.{level_of, is_unary}
-use Rattle.js_parse.specs.Tests.{code, word_code, fixed, kept_as, name_of, text_of, word_of, lit_of, unary_of, link_of}
+use Rattle.script_parser.specs.Tests.{code, word_code, fixed, kept_as, name_of, text_of, word_of, lit_of, unary_of, link_of}
 
 decode : ℕ → Sign
 decode n = slice_index_or signs n Same

@@ -7,8 +7,8 @@ use Rattle.script_text.specs.declared.word.Reserved.TheVariants as kept
 use Rattle.script_grammar.specs.Tokens.{Tok, Toks}
 use Rattle.script_grammar.specs.Trees.{Lit, Word, Named, Ex, Literal, Var, Round, ListOf, Object, Member, Unary, Chain, Choice, Elems, NoElems, LastElem, ThenElem, Prop, Keyed, Quoted, Short, Props, NoProps, LastProp, ThenProp, Suffix, Dot, Index, Suffixes, NoSuffixes, ThenSuffix, Links, NoLinks, ThenLink, Stmt, Block, Empty, IfThen, IfElse, Return, ReturnOf, Throw, ThrowError, Delete, Set, Do, Item, Const, Let, LetBe, Plain, Items, NoItems, ThenItem, Params, One, Two, Reducer, Function, Program, NoReducers, ThenReducer}
 use Rattle.script_grammar.specs.Rules.{is_member, is_target, is_open}
-use Rattle.js_parse.specs.Steps.{Parser, ◌>>=◌, pure, fail, take, too_deep, look, again, many, finish}
-use Rattle.js_parse.specs.Tests.{fixed, kept_as, name_of, text_of, word_of, lit_of, unary_of, link_of, is, sees, sees_word, sees_unary, AtomForm, RoundForm, ListForm, ObjectForm, VarForm, OtherForm, atom_form, PropForm, NameForm, QuotedForm, WordForm, prop_form, StmtForm, BlockForm, EmptyForm, IfForm, ReturnForm, ThrowForm, DeleteForm, ExprForm, stmt_form, ItemForm, ConstForm, LetForm, PlainForm, item_form, begins_suffix, begins_link, in_block}
+use Rattle.script_parser.specs.Steps.{Parser, ◌>>=◌, pure, fail, take, too_deep, look, again, many, finish}
+use Rattle.script_parser.specs.Tests.{fixed, kept_as, name_of, text_of, word_of, lit_of, unary_of, link_of, is, sees, sees_word, sees_unary, AtomForm, RoundForm, ListForm, ObjectForm, VarForm, OtherForm, atom_form, PropForm, NameForm, QuotedForm, WordForm, prop_form, StmtForm, BlockForm, EmptyForm, IfForm, ReturnForm, ThrowForm, DeleteForm, ExprForm, stmt_form, ItemForm, ConstForm, LetForm, PlainForm, item_form, begins_suffix, begins_link, in_block}
 
 -- the parsers one level down
 pub record Below : Type 0 where

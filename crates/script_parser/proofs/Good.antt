@@ -2,7 +2,7 @@
 use Rattle.std.proofs.Common.{◌≡◌, ℕ, zero, suc, ◌+◌, ◌-◌, ◌<◌, ◌≤◌, Bool, true, false, List, [], ◌∷◌, ◌++◌, length, Option, Some, None, Result, Ok, Err, refl, sym, ap, subst, ◌∙◌, append_assoc, append-nil, arith, ◌⊎◌, inl, inr, length-append}
 use Rattle.std.specs.Prelude.{if◌then◌else◌}
 use Rattle.script_grammar.specs.Tokens.{Tok, Name, Toks}
-use Rattle.js_parse.specs.Steps.{Why, Unexpected, TooNested, Outcome, Parser, and_then, ◌>>=◌, pure, fail, taken, take, refused, too_deep, first, look, again_from, again, many_by, many, finish}
+use Rattle.script_parser.specs.Steps.{Why, Unexpected, TooNested, Outcome, Parser, and_then, ◌>>=◌, pure, fail, taken, take, refused, too_deep, first, look, again_from, again, many_by, many, finish}
 
 -- Which tokens are read as which value, where the first n of them open no level too many.
 abbrev pub Lang : Type 0 → Type 1

@@ -4,11 +4,11 @@ use Rattle.std.specs.Prelude.{if◌then◌else◌}
 use Rattle.script_text.specs.declared.sign.Sign.{Sign}
 use Rattle.script_text.specs.declared.sign.Sign.TheVariants.{Comma}
 use Rattle.script_grammar.specs.Tokens.{Tok, Name, Fixed, Toks}
-use Rattle.js_parse.specs.Steps.{Why, Unexpected, TooNested, Outcome, Parser, and_then, ◌>>=◌, pure, fail, take, first, look, again, many_by, many}
-use Rattle.js_parse.specs.Tests.{fixed, sees}
-use Rattle.js_parse.specs.Parser.{expect, comma_by, separated_by, separated}
-use Rattle.js_parse.proofs.Good.{Lang, Example, Good, Seq, Nothing, Taken, Judge, Consumes, Within, Behind, good_pure, good_look, good_sub, good_bind, good_take, good_again, within_behind, within_then, behind_item, again_is}
-use Rattle.js_parse.proofs.Tests.{of_fixed, is_fixed}
+use Rattle.script_parser.specs.Steps.{Why, Unexpected, TooNested, Outcome, Parser, and_then, ◌>>=◌, pure, fail, take, first, look, again, many_by, many}
+use Rattle.script_parser.specs.Tests.{fixed, sees}
+use Rattle.script_parser.specs.Parser.{expect, comma_by, separated_by, separated}
+use Rattle.script_parser.proofs.Good.{Lang, Example, Good, Seq, Nothing, Taken, Judge, Consumes, Within, Behind, good_pure, good_look, good_sub, good_bind, good_take, good_again, within_behind, within_then, behind_item, again_is}
+use Rattle.script_parser.proofs.Tests.{of_fixed, is_fixed}
 
 pub good_expect : (s : Sign) → Good (Taken (fixed s)) (expect s)
 good_expect s = good_take (fixed s) (Fixed s) tt (is_fixed s)

@@ -3,8 +3,8 @@ use Rattle.std.specs.Prelude.{◌≡◌, ℕ, [], Ok, Err}
 use Rattle.script_grammar.specs.Tokens.{Toks}
 use Rattle.script_grammar.specs.Trees.{Program}
 use Rattle.script_grammar.specs.Programs.{IsProgram, IsUnexpected, IsTooNested}
-use Rattle.js_parse.specs.Steps.{Unexpected, TooNested}
-use Rattle.js_parse.specs.Parser.{program}
+use Rattle.script_parser.specs.Steps.{Unexpected, TooNested}
+use Rattle.script_parser.specs.Parser.{program}
 
 pub record Exact (d : ℕ) (ts : Toks) : Type 0 where
   pub read : (p : Program) (rest : Toks) → program d ts ≡ Ok (p, rest) → IsProgram d ts p

@@ -7,13 +7,13 @@ use Rattle.script_grammar.specs.Tokens.{Tok, Name, Text, Fixed, Toks}
 use Rattle.script_grammar.specs.Trees.{Lit, Number, Word, Named, Ex, Literal, Var, Round, ListOf, Object, Member, Unary, Chain, Choice, Elems, NoElems, LastElem, ThenElem, Prop, Keyed, Quoted, Short, Props, NoProps, LastProp, ThenProp, Suffix, Dot, Index, Suffixes, NoSuffixes, ThenSuffix, Links, NoLinks, ThenLink}
 use Rattle.script_grammar.specs.Spelling.{spell_lit, spell_word, spell_ex, spell_elems, spell_prop, spell_props, spell_suffix, spell_suffixes, spell_links}
 use Rattle.script_grammar.specs.Rules.{level_of, is_unary, is_atom, Binds, BindsElems, BindsProp, BindsProps, BindsSuffix, BindsSuffixes, BindsLinks, within, within_elems, within_prop, within_props, within_suffix, within_suffixes, within_links}
-use Rattle.js_parse.specs.Steps.{Why, Unexpected, TooNested, Parser, ◌>>=◌, pure, fail, take, too_deep, first, look, many, many_by}
-use Rattle.js_parse.specs.Tests.{fixed, name_of, text_of, word_of, lit_of, unary_of, link_of, sees, sees_unary, AtomForm, RoundForm, ListForm, ObjectForm, VarForm, OtherForm, atom_form, PropForm, NameForm, QuotedForm, WordForm, prop_form, begins_suffix, begins_link}
-use Rattle.js_parse.specs.Parser.{Below, expect, opened, named, literal, rounded, elems, separated_by, listed, valued, short_by, prop_by, prop, props, objected, atom_by, atom, index, dot, suffix_by, suffix, suffixes, member, post, signed, unary_by, unary, then_link, chained, link, links, chain, choice, choice_by, expr}
-use Rattle.js_parse.proofs.Good.{Lang, Example, Good, Seq, Nothing, Consumes, Behind, good_pure, good_look, good_sub, good_bind}
-use Rattle.js_parse.proofs.Lists.{good_many, good_separated, many_is, separated_is}
-use Rattle.js_parse.proofs.Languages.{Just, NameAt, TextAt, WordAt, LitAt, SignAt, LinkSign, good_sign, good_name, good_text, good_key, good_lit, good_unary_sign, good_link_sign, Of, both_fit, ExAt, Goods, GoodBelow, good_opened, deep_sign}
-use Rattle.js_parse.proofs.Tests.{of_unary}
+use Rattle.script_parser.specs.Steps.{Why, Unexpected, TooNested, Parser, ◌>>=◌, pure, fail, take, too_deep, first, look, many, many_by}
+use Rattle.script_parser.specs.Tests.{fixed, name_of, text_of, word_of, lit_of, unary_of, link_of, sees, sees_unary, AtomForm, RoundForm, ListForm, ObjectForm, VarForm, OtherForm, atom_form, PropForm, NameForm, QuotedForm, WordForm, prop_form, begins_suffix, begins_link}
+use Rattle.script_parser.specs.Parser.{Below, expect, opened, named, literal, rounded, elems, separated_by, listed, valued, short_by, prop_by, prop, props, objected, atom_by, atom, index, dot, suffix_by, suffix, suffixes, member, post, signed, unary_by, unary, then_link, chained, link, links, chain, choice, choice_by, expr}
+use Rattle.script_parser.proofs.Good.{Lang, Example, Good, Seq, Nothing, Consumes, Behind, good_pure, good_look, good_sub, good_bind}
+use Rattle.script_parser.proofs.Lists.{good_many, good_separated, many_is, separated_is}
+use Rattle.script_parser.proofs.Languages.{Just, NameAt, TextAt, WordAt, LitAt, SignAt, LinkSign, good_sign, good_name, good_text, good_key, good_lit, good_unary_sign, good_link_sign, Of, both_fit, ExAt, Goods, GoodBelow, good_opened, deep_sign}
+use Rattle.script_parser.proofs.Tests.{of_unary}
 
 abbrev pub ElemsAt : ℕ → Lang Elems
 ElemsAt d = Of spell_elems BindsElems (λ es n. within_elems es d n)

@@ -5,13 +5,13 @@ use Rattle.script_grammar.specs.Trees.{Program}
 use Rattle.script_grammar.specs.Spelling.{spell_program}
 use Rattle.script_grammar.specs.Rules.{Right, within_program}
 use Rattle.script_grammar.specs.Programs.{IsProgram, Begins, BeginsWithin, Stops, IsUnexpected, IsTooNested}
-use Rattle.js_parse.specs.Steps.{Why, Unexpected, TooNested, Outcome, and_then, ◌>>=◌, pure, finish}
-use Rattle.js_parse.specs.Parser.{below, reducers, program}
-use Rattle.js_parse.specs.Exact.{Exact}
-use Rattle.js_parse.proofs.Good.{Good, Judge, Alike, Shown}
-use Rattle.js_parse.proofs.Statements.{ProgramAt, good_program}
-use Rattle.js_parse.proofs.Takes.{Takes, Reads, Exceeds}
-use Rattle.js_parse.proofs.AcceptStatements.{accept_program}
+use Rattle.script_parser.specs.Steps.{Why, Unexpected, TooNested, Outcome, and_then, ◌>>=◌, pure, finish}
+use Rattle.script_parser.specs.Parser.{below, reducers, program}
+use Rattle.script_parser.specs.Exact.{Exact}
+use Rattle.script_parser.proofs.Good.{Good, Judge, Alike, Shown}
+use Rattle.script_parser.proofs.Statements.{ProgramAt, good_program}
+use Rattle.script_parser.proofs.Takes.{Takes, Reads, Exceeds}
+use Rattle.script_parser.proofs.AcceptStatements.{accept_program}
 
 ok_same : (p q : Program × Toks) (a b : Outcome Program) → a ≡ Ok p → b ≡ Ok q → a ≡ b → p ≡ q
 ok_same p q a b f g e = cc
