@@ -8,7 +8,7 @@ pub data Lit : Type 0 where
   Quote : List ℕ → Lit
   True False Null Undefined : Lit
 
--- a word in the place of a key: a name with its offset, or a word that is no name
+-- a word in the place of a key: a name with the number of its token, or a word that is no name
 pub data Word : Type 0 where
   Named : ℕ → List ℕ → Word
   Reserve : Reserved → Word
@@ -16,7 +16,7 @@ pub data Word : Type 0 where
 mutual
   pub data Ex : Type 0 where
     Literal : Lit → Ex
-    -- a name with its offset
+    -- a name with the number of its token
     Var : ℕ → List ℕ → Ex
     Round : Ex → Ex
     ListOf : Elems → Ex

@@ -6,7 +6,7 @@ use Rattle.script_text.specs.declared.sign.Sign.{Sign}
 use Rattle.script_text.specs.declared.sign.Sign.TheVariants.{Same, NotSame, AtMost, AtLeast, And, Or, OpenRound, CloseRound, OpenBrace, CloseBrace, OpenSquare, CloseSquare, Comma, Semicolon, Colon, Question, Assign, Less, Greater, Plus, Minus, Star, Percent, Not, Dot as Point}
 use Rattle.script_text.specs.declared.word.Reserved.{Reserved}
 use Rattle.script_text.specs.declared.word.Reserved.TheVariants as kept
-use Rattle.script_grammar.specs.Tokens.{Tok, Name, Kept, Integer, Text, Fixed, Toks}
+use Rattle.script_grammar.specs.Tokens.{Tok, Name, Kept, Integer, Text, Fixed, Other, Toks}
 use Rattle.script_grammar.specs.Trees.{Lit, Number, Quote, True, False, Null, Undefined, Ex, Literal, Var, Round, ListOf, Object, Member, Unary, Chain, Choice}
 use Rattle.script_grammar.specs.Spelling.{spell_lit, spell_ex, spell_suffix, spell_suffixes, spell_links}
 use Rattle.script_grammar.specs.Rules.{level_of, is_unary, Binds, opens_brace}
@@ -65,12 +65,14 @@ no_suffix (Fixed _) h = refl
 no_suffix (Name at bytes) h = refl
 no_suffix (Kept r) h = refl
 no_suffix (Integer n) h = refl
+no_suffix Other h = refl
 no_suffix (Text bytes) h = refl
 
 pub no_link : (k : ℕ) (t : Tok) → k < 6 → suc k < stop (Some t) → begins_link k t ≡ false
 no_link k (Name at bytes) l h = refl
 no_link k (Kept r) l h = refl
 no_link k (Integer n) l h = refl
+no_link k Other l h = refl
 no_link k (Text bytes) l h = refl
 no_link k (Fixed s) l h = go (level_of s == k) refl
   where
@@ -86,6 +88,7 @@ no_question None h = refl
 no_question (Some (Name at bytes)) h = refl
 no_question (Some (Kept r)) h = refl
 no_question (Some (Integer n)) h = refl
+no_question (Some Other) h = refl
 no_question (Some (Text bytes)) h = refl
 no_question (Some (Fixed Question)) h = absurd (omega (arith, h))
 no_question (Some (Fixed _)) h = refl
@@ -94,6 +97,7 @@ no_question (Some (Fixed _)) h = refl
 abbrev pub starts : Tok → Bool
 starts (Name at bytes) = true
 starts (Integer n) = true
+starts Other = false
 starts (Text bytes) = true
 starts (Kept kept.True) = true
 starts (Kept kept.False) = true
@@ -163,6 +167,7 @@ pub no_square : (t : Tok) → starts t ≡ true → sees CloseSquare (Some t) �
 no_square (Name at bytes) h = refl
 no_square (Kept r) h = refl
 no_square (Integer n) h = refl
+no_square Other h = refl
 no_square (Text bytes) h = refl
 no_square (Fixed CloseSquare) h = absurd cc
 no_square (Fixed _) h = refl
@@ -171,6 +176,7 @@ pub no_close_brace : (t : Tok) → starts t ≡ true → sees CloseBrace (Some t
 no_close_brace (Name at bytes) h = refl
 no_close_brace (Kept r) h = refl
 no_close_brace (Integer n) h = refl
+no_close_brace Other h = refl
 no_close_brace (Text bytes) h = refl
 no_close_brace (Fixed CloseBrace) h = absurd cc
 no_close_brace (Fixed _) h = refl
@@ -179,6 +185,7 @@ pub no_semicolon : (t : Tok) → starts t ≡ true → sees Semicolon (Some t) �
 no_semicolon (Name at bytes) h = refl
 no_semicolon (Kept r) h = refl
 no_semicolon (Integer n) h = refl
+no_semicolon Other h = refl
 no_semicolon (Text bytes) h = refl
 no_semicolon (Fixed Semicolon) h = absurd cc
 no_semicolon (Fixed _) h = refl
@@ -186,6 +193,7 @@ no_semicolon (Fixed _) h = refl
 pub no_new : (t : Tok) → starts t ≡ true → sees_word kept.New (Some t) ≡ false
 no_new (Name at bytes) h = refl
 no_new (Integer n) h = refl
+no_new Other h = refl
 no_new (Text bytes) h = refl
 no_new (Fixed s) h = refl
 no_new (Kept kept.New) h = absurd cc
@@ -194,6 +202,7 @@ no_new (Kept _) h = refl
 pub no_else : (t : Tok) → starts t ≡ true → sees_word kept.Else (Some t) ≡ false
 no_else (Name at bytes) h = refl
 no_else (Integer n) h = refl
+no_else Other h = refl
 no_else (Text bytes) h = refl
 no_else (Fixed s) h = refl
 no_else (Kept kept.Else) h = absurd cc
@@ -203,6 +212,7 @@ pub no_brace : (t : Tok) → starts t ≡ true → opens_brace t ≡ false → s
 no_brace (Name at bytes) h b = refl
 no_brace (Kept r) h b = refl
 no_brace (Integer n) h b = refl
+no_brace Other h b = refl
 no_brace (Text bytes) h b = refl
 no_brace (Fixed OpenBrace) h b = absurd cc
 no_brace (Fixed _) h b = refl
@@ -210,6 +220,7 @@ no_brace (Fixed _) h b = refl
 pub expr_form : (t : Tok) → starts t ≡ true → opens_brace t ≡ false → stmt_form (Some t) ≡ ExprForm
 expr_form (Name at bytes) h b = refl
 expr_form (Integer n) h b = refl
+expr_form Other h b = refl
 expr_form (Text bytes) h b = refl
 expr_form (Fixed OpenBrace) h b = absurd cc
 expr_form (Fixed Semicolon) h b = absurd cc
@@ -223,6 +234,7 @@ expr_form (Kept _) h b = refl
 pub plain_form : (t : Tok) → starts t ≡ true → item_form (Some t) ≡ PlainForm
 plain_form (Name at bytes) h = refl
 plain_form (Integer n) h = refl
+plain_form Other h = refl
 plain_form (Text bytes) h = refl
 plain_form (Fixed s) h = refl
 plain_form (Kept kept.Const) h = absurd cc
@@ -232,6 +244,7 @@ plain_form (Kept _) h = refl
 pub starts_in_block : (t : Tok) → starts t ≡ true → in_block t ≡ true
 starts_in_block (Name at bytes) h = refl
 starts_in_block (Integer n) h = refl
+starts_in_block Other h = refl
 starts_in_block (Text bytes) h = refl
 starts_in_block (Kept r) h = refl
 starts_in_block (Fixed CloseBrace) h = absurd cc

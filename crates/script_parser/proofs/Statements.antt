@@ -5,7 +5,7 @@ use Rattle.script_text.specs.declared.sign.Sign.{Sign}
 use Rattle.script_text.specs.declared.sign.Sign.TheVariants.{OpenRound, CloseRound, OpenBrace, CloseBrace, Comma, Semicolon, Dot as Point, Assign}
 use Rattle.script_text.specs.declared.word.Reserved.{Reserved}
 use Rattle.script_text.specs.declared.word.Reserved.TheVariants as kept
-use Rattle.script_grammar.specs.Tokens.{Tok, Name, Kept, Integer, Text, Fixed, Toks}
+use Rattle.script_grammar.specs.Tokens.{Tok, Name, Kept, Integer, Text, Fixed, Other, Toks}
 use Rattle.script_grammar.specs.Trees.{Named, Ex, Literal, Var, Round, ListOf, Object, Member, Unary, Chain, Choice, Dot, NoSuffixes, Stmt, Block, Empty, IfThen, IfElse, Return, ReturnOf, Throw, ThrowError, Delete, Set, Do, Item, Const, Let, LetBe, Plain, Items, NoItems, ThenItem, Params, One, Two, Reducer, Function, Program, NoReducers, ThenReducer}
 use Rattle.script_grammar.specs.Spelling.{spell_ex, spell_stmt, spell_item, spell_items, spell_params, spell_reducer, spell_program}
 use Rattle.script_grammar.specs.Rules.{is_atom, is_member, is_target, Binds, within, opens_brace, begins_brace, is_open, RightStmt, RightItem, RightItems, RightReducer, Right, inner_levels, within_stmt, within_item, within_items, within_reducer, within_program}
@@ -228,6 +228,7 @@ brace_token : (t : Tok) → NoBrace (Some t) → opens_brace t ≡ false
 brace_token (Name at bytes) h = refl
 brace_token (Kept r) h = refl
 brace_token (Integer n) h = refl
+brace_token Other h = refl
 brace_token (Text bytes) h = refl
 brace_token (Fixed OpenBrace) h = absurd cc
 brace_token (Fixed _) h = refl
@@ -252,6 +253,7 @@ form_brace None e = refl
 form_brace (Some (Name at bytes)) e = refl
 form_brace (Some (Kept r)) e = refl
 form_brace (Some (Integer n)) e = refl
+form_brace (Some Other) e = refl
 form_brace (Some (Text bytes)) e = refl
 form_brace (Some (Fixed OpenBrace)) e = absurd cc
 form_brace (Some (Fixed _)) e = refl

@@ -7,12 +7,12 @@ use Rattle.script_text.specs.declared.sign.Sign.TheVariants.{Same, NotSame, AtMo
 use Rattle.script_text.specs.declared.word.Reserved.{Reserved}
 use Rattle.script_text.specs.declared.word.Reserved.TheVariants as kept
 use Rattle.script_text.specs.Signs.{signs}
-use Rattle.script_text.specs.Words.{words}
-use Rattle.script_grammar.specs.Tokens.{Tok, Name, Kept, Integer, Text, Fixed}
+use Rattle.script_text.specs.Words.{words, word_code}
+use Rattle.script_grammar.specs.Tokens.{Tok, Name, Kept, Integer, Text, Fixed, Other}
 use Rattle.script_grammar.specs.Trees.{Lit, Number, Quote, True, False, Null, Undefined, Word, Named, Reserve}
 use Rattle.script_grammar.specs.Spelling.{spell_lit, spell_word}
 use Rattle.script_grammar.specs.Rules.{level_of, is_unary}
-use Rattle.script_parser.specs.Tests.{code, word_code, fixed, kept_as, name_of, text_of, word_of, lit_of, unary_of, link_of}
+use Rattle.script_parser.specs.Tests.{code, fixed, kept_as, name_of, text_of, word_of, lit_of, unary_of, link_of}
 
 decode : ℕ → Sign
 decode n = slice_index_or signs n Same
@@ -111,6 +111,7 @@ pub of_fixed : (s : Sign) (t : Tok) (u : Unit {0}) → fixed s t ≡ Some u → 
 of_fixed s (Name at bytes) u e = absurd cc
 of_fixed s (Kept r) u e = absurd cc
 of_fixed s (Integer n) u e = absurd cc
+of_fixed s Other u e = absurd cc
 of_fixed s (Text bytes) u e = absurd cc
 of_fixed s (Fixed r) u e = go (code s == code r) refl e
   where
@@ -122,6 +123,7 @@ pub of_kept : (w : Reserved) (t : Tok) (u : Unit {0}) → kept_as w t ≡ Some u
 of_kept w (Name at bytes) u e = absurd cc
 of_kept w (Fixed r) u e = absurd cc
 of_kept w (Integer n) u e = absurd cc
+of_kept w Other u e = absurd cc
 of_kept w (Text bytes) u e = absurd cc
 of_kept w (Kept r) u e = go (word_code w == word_code r) refl e
   where
@@ -136,6 +138,7 @@ pub of_name : (t : Tok) (n : ℕ × List ℕ) → name_of t ≡ Some n → t ≡
 of_name (Name at bytes) n e = let same = pair_same (at, bytes) n e in ap (λ (p : ℕ × List ℕ). Name p.0 p.1) same
 of_name (Kept r) n e = absurd cc
 of_name (Integer m) n e = absurd cc
+of_name Other n e = absurd cc
 of_name (Text bytes) n e = absurd cc
 of_name (Fixed s) n e = absurd cc
 
@@ -144,6 +147,7 @@ of_text (Text bytes) b e = cc
 of_text (Name at bytes) b e = absurd cc
 of_text (Kept r) b e = absurd cc
 of_text (Integer m) b e = absurd cc
+of_text Other b e = absurd cc
 of_text (Fixed s) b e = absurd cc
 
 pub of_word : (t : Tok) (w : Word) → word_of t ≡ Some w → t ≡ spell_word w
@@ -153,6 +157,7 @@ of_word (Kept r) (Reserve s) e = cc
 of_word (Kept r) (Named at bytes) e = absurd cc
 of_word (Text bytes) w e = absurd cc
 of_word (Integer m) w e = absurd cc
+of_word Other w e = absurd cc
 of_word (Fixed s) w e = absurd cc
 
 lit_same : (a b : Lit) → Some a ≡ Some b → spell_lit a ≡ spell_lit b
@@ -160,6 +165,7 @@ lit_same a b e = let same : a ≡ b = cc in ap spell_lit same
 
 pub of_lit : (t : Tok) (l : Lit) → lit_of t ≡ Some l → t ≡ spell_lit l
 of_lit (Integer n) l e = lit_same (Number n) l e
+of_lit Other l e = absurd cc
 of_lit (Text bytes) l e = lit_same (Quote bytes) l e
 of_lit (Kept kept.True) l e = lit_same True l e
 of_lit (Kept kept.False) l e = lit_same False l e
@@ -181,6 +187,7 @@ of_unary (Fixed r) s e = go (is_unary r) refl e
 of_unary (Name at bytes) s e = absurd cc
 of_unary (Kept r) s e = absurd cc
 of_unary (Integer m) s e = absurd cc
+of_unary Other s e = absurd cc
 of_unary (Text bytes) s e = absurd cc
 
 pub of_link : (k : ℕ) (t : Tok) (s : Sign) → link_of k t ≡ Some s → (t ≡ Fixed s) × (level_of s ≡ k)
@@ -192,6 +199,7 @@ of_link k (Fixed r) s e = go (level_of r == k) refl e
 of_link k (Name at bytes) s e = absurd cc
 of_link k (Kept r) s e = absurd cc
 of_link k (Integer m) s e = absurd cc
+of_link k Other s e = absurd cc
 of_link k (Text bytes) s e = absurd cc
 
 -- ---- and the other way round

@@ -3,6 +3,7 @@ use Rattle.std.specs.Prelude.{ℕ, Bool, true, false, if◌then◌else◌, ◌==
 use Rattle.script_text.specs.declared.sign.Sign.{Sign}
 use Rattle.script_text.specs.declared.sign.Sign.TheVariants.{Same, NotSame, AtMost, AtLeast, And, Or, OpenRound, CloseRound, OpenBrace, CloseBrace, OpenSquare, CloseSquare, Comma, Semicolon, Colon, Dot, Question, Assign, Less, Greater, Plus, Minus, Star, Percent, Not}
 use Rattle.script_text.specs.declared.word.Reserved.{Reserved}
+use Rattle.script_text.specs.Words.{word_code}
 use Rattle.script_text.specs.declared.word.Reserved.TheVariants as kept
 use Rattle.script_grammar.specs.Tokens.{Tok, Name, Kept, Integer, Text, Fixed}
 use Rattle.script_grammar.specs.Trees.{Lit, Number, Quote, True, False, Null, Undefined, Word, Named, Reserve}
@@ -34,58 +35,6 @@ code Minus = 21
 code Star = 22
 code Percent = 23
 code Not = 24
-
-abbrev pub word_code : Reserved → ℕ
-word_code kept.Break = 0
-word_code kept.Case = 1
-word_code kept.Catch = 2
-word_code kept.Class = 3
-word_code kept.Const = 4
-word_code kept.Continue = 5
-word_code kept.Debugger = 6
-word_code kept.Default = 7
-word_code kept.Delete = 8
-word_code kept.Do = 9
-word_code kept.Else = 10
-word_code kept.Enum = 11
-word_code kept.Export = 12
-word_code kept.Extends = 13
-word_code kept.False = 14
-word_code kept.Finally = 15
-word_code kept.For = 16
-word_code kept.Function = 17
-word_code kept.If = 18
-word_code kept.Import = 19
-word_code kept.In = 20
-word_code kept.Instanceof = 21
-word_code kept.Let = 22
-word_code kept.New = 23
-word_code kept.Null = 24
-word_code kept.Of = 25
-word_code kept.Return = 26
-word_code kept.Static = 27
-word_code kept.Super = 28
-word_code kept.Switch = 29
-word_code kept.This = 30
-word_code kept.Throw = 31
-word_code kept.True = 32
-word_code kept.Try = 33
-word_code kept.Typeof = 34
-word_code kept.Undefined = 35
-word_code kept.Var = 36
-word_code kept.Void = 37
-word_code kept.While = 38
-word_code kept.With = 39
-word_code kept.Yield = 40
-word_code kept.Await = 41
-word_code kept.Original = 42
-word_code kept.Current = 43
-word_code kept.IsDraft = 44
-word_code kept.Object = 45
-word_code kept.Array = 46
-word_code kept.Map = 47
-word_code kept.Set = 48
-word_code kept.Error = 49
 
 abbrev pub fixed : Sign → Tok → Option (Unit {0})
 fixed s (Fixed r) = if code s == code r then Some tt else None

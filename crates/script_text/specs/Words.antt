@@ -56,6 +56,59 @@ word kept.Map = codes "Map"
 word kept.Set = codes "Set"
 word kept.Error = codes "Error"
 
+-- the place of each word in the list of all
+abbrev pub word_code : Reserved → ℕ
+word_code kept.Break = 0
+word_code kept.Case = 1
+word_code kept.Catch = 2
+word_code kept.Class = 3
+word_code kept.Const = 4
+word_code kept.Continue = 5
+word_code kept.Debugger = 6
+word_code kept.Default = 7
+word_code kept.Delete = 8
+word_code kept.Do = 9
+word_code kept.Else = 10
+word_code kept.Enum = 11
+word_code kept.Export = 12
+word_code kept.Extends = 13
+word_code kept.False = 14
+word_code kept.Finally = 15
+word_code kept.For = 16
+word_code kept.Function = 17
+word_code kept.If = 18
+word_code kept.Import = 19
+word_code kept.In = 20
+word_code kept.Instanceof = 21
+word_code kept.Let = 22
+word_code kept.New = 23
+word_code kept.Null = 24
+word_code kept.Of = 25
+word_code kept.Return = 26
+word_code kept.Static = 27
+word_code kept.Super = 28
+word_code kept.Switch = 29
+word_code kept.This = 30
+word_code kept.Throw = 31
+word_code kept.True = 32
+word_code kept.Try = 33
+word_code kept.Typeof = 34
+word_code kept.Undefined = 35
+word_code kept.Var = 36
+word_code kept.Void = 37
+word_code kept.While = 38
+word_code kept.With = 39
+word_code kept.Yield = 40
+word_code kept.Await = 41
+word_code kept.Original = 42
+word_code kept.Current = 43
+word_code kept.IsDraft = 44
+word_code kept.Object = 45
+word_code kept.Array = 46
+word_code kept.Map = 47
+word_code kept.Set = 48
+word_code kept.Error = 49
+
 abbrev pub words : List Reserved
 words = kept.Break ∷ kept.Case ∷ kept.Catch ∷ kept.Class ∷ kept.Const ∷ kept.Continue ∷ kept.Debugger ∷ kept.Default ∷ kept.Delete ∷ kept.Do ∷ kept.Else ∷ kept.Enum ∷ kept.Export ∷ kept.Extends ∷ kept.False ∷ kept.Finally ∷ kept.For ∷ kept.Function ∷ kept.If ∷ kept.Import ∷ kept.In ∷ kept.Instanceof ∷ kept.Let ∷ kept.New ∷ kept.Null ∷ kept.Of ∷ kept.Return ∷ kept.Static ∷ kept.Super ∷ kept.Switch ∷ kept.This ∷ kept.Throw ∷ kept.True ∷ kept.Try ∷ kept.Typeof ∷ kept.Undefined ∷ kept.Var ∷ kept.Void ∷ kept.While ∷ kept.With ∷ kept.Yield ∷ kept.Await ∷ kept.Original ∷ kept.Current ∷ kept.IsDraft ∷ kept.Object ∷ kept.Array ∷ kept.Map ∷ kept.Set ∷ kept.Error ∷ []
 

@@ -1,7 +1,7 @@
 //! The words that are no names.
 
-ghost use Rattle.std.specs.Prelude.{◌≡◌};
-ghost use Rattle.script_text.specs.Words.{word, first_word, reserved_of};
+ghost use Rattle.std.specs.Prelude.{◌≡◌, ◌==◌};
+ghost use Rattle.script_text.specs.Words.{word, word_code, first_word, reserved_of};
 
 /// A word that is no name.
 #[derive(Clone, Copy, Debug, Drop, PartialEq, Eq)]
@@ -163,6 +163,13 @@ pub const RESERVED: [Reserved; 50] = [
 ];
 
 impl Reserved {
+    /// Whether both are the same word.
+    pub fn same(self, other: Reserved) -> bool
+        ensures { result ≡ (word_code self == word_code other) }
+    {
+        self as u8 == other as u8
+    }
+
     /// How the word is written.
     pub fn text(self) -> &'static str
         ensures { result.now ≡ word self }

@@ -5,18 +5,18 @@ use script_text::{Reserved, Sign};
 use sqlite_items::{Boxed, Items};
 use value_model::{Safe, Text};
 
-/// A name and the number of its token.
+/// A name, in its bytes, and the number of its token.
 #[derive(Debug, Drop)]
 pub struct Name {
     pub at: usize,
-    pub text: Text,
+    pub text: Items<u8>,
 }
 
 /// A word or a text in the place of a key.
 #[derive(Debug, Drop)]
 pub enum Label {
     Name(Name),
-    Reserved(Reserved, Text),
+    Reserved(Reserved),
     Quoted(Text),
     Short(Name),
 }

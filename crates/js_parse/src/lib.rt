@@ -1,0 +1,4 @@
+//! The program that the tokens of a script spell.
+#![tactic(auto)]
+
+mod source;
