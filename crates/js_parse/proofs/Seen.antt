@@ -11,8 +11,8 @@ use Rattle.script_text.specs.declared.token.Kind.TheVariants as kind
 use Rattle.script_text.specs.Lexical.{largest}
 use Rattle.script_grammar.specs.Tokens.{Tok, Name, Kept, Integer, Text, Fixed, Other, Toks, bytes_of, text_value, as_text, seen_as, seen, seen_from}
 use Rattle.script_parser.specs.Steps.{Unexpected, Parser, taken, take as read, first}
-use Rattle.script_parser.specs.Tests.{code, fixed, kept_as, is_some, sees, sees_word}
-use Rattle.js_parse.specs.Next.{next_kind, is_sign, is_word, made}
+use Rattle.script_parser.specs.Tests.{code, fixed, kept_as, is_some, sees, sees_word, name_of}
+use Rattle.js_parse.specs.Next.{next_kind, is_sign, is_word, is_name, made}
 use Rattle.js_parse.specs.Reading.{toks}
 
 -- what is seen of an integer and of a text
@@ -137,3 +137,39 @@ word_not_read w ts h = read_none (kept_as w) ts (word_none w (first ts) h)
 
 pub slice_is : (bytes : List ℕ) (start n : ℕ) → take (min n (length (drop (min start (length bytes)) bytes))) (drop (min start (length bytes)) bytes) ≡ take n (drop start bytes)
 slice_is bytes start n = rw (drop_min start bytes) (take_min n (drop start bytes))
+
+kind_name : (bytes : List ℕ) (k : ℕ) (c : Kind) → is_some (name_of (seen_as bytes k c)) ≡ is_name (Some c)
+kind_name bytes k kind.Name = refl
+kind_name bytes k (kind.Reserved r) = refl
+kind_name bytes k (kind.Integer n) = let P : Tok → Type 0 = λ t. is_some (name_of t) ≡ false in integer_cases P n refl refl
+kind_name bytes k kind.Text = let P : Tok → Type 0 = λ t. is_some (name_of t) ≡ false in text_cases P (text_value bytes) refl (λ v. refl)
+kind_name bytes k (kind.Sign r) = refl
+
+name_list : (bytes : List ℕ) (k : ℕ) (ts : List Token) → is_some (made name_of (first (seen_from bytes k ts))) ≡ is_name (next_kind ts)
+unfolding seen_from
+name_list bytes k [] = refl
+name_list bytes k (t ∷ ts) = kind_name (bytes_of bytes t) k t.kind
+
+pub name_is : (bytes : List ℕ) (tokens : List Token) (at : ℕ) → is_some (made name_of (first (toks bytes tokens at))) ≡ is_name (next_kind (drop at tokens))
+name_is bytes tokens at = name_list bytes at (drop at tokens)
+
+-- a test that something is made
+none_made : {A : Type 0} (o : Option A) → is_some o ≡ false → o ≡ None
+none_made None h = refl
+none_made (Some a) h = absurd cc
+
+named : (bytes : List ℕ) (k : ℕ) (c : Kind) → is_name (Some c) ≡ true → name_of (seen_as bytes k c) ≡ Some (k, bytes)
+named bytes k kind.Name h = refl
+named bytes k (kind.Reserved r) h = absurd cc
+named bytes k (kind.Integer n) h = absurd cc
+named bytes k kind.Text h = absurd cc
+named bytes k (kind.Sign r) h = absurd cc
+
+pub name_read : (bytes : List ℕ) (tokens : List Token) (at : ℕ) (t : Token) → at < length tokens → is_some (made name_of (first (toks bytes tokens at))) ≡ true → read name_of (toks bytes tokens at) ≡ Ok ((at, bytes_of bytes (slice_index_or tokens at t)), toks bytes tokens (at + 1))
+name_read bytes tokens at t l h = read_some name_of bytes tokens at (at, bytes_of bytes (slice_index_or tokens at t)) (rw (toks_here bytes tokens at t l) (named (bytes_of bytes (slice_index_or tokens at t)) at (slice_index_or tokens at t).kind here))
+  where
+    here : is_name (Some (slice_index_or tokens at t).kind) ≡ true
+    here = sym (kind_name (bytes_of bytes (slice_index_or tokens at t)) at (slice_index_or tokens at t).kind) ∙ rw (toks_here bytes tokens at t l) at h
+
+pub name_not_read : (ts : Toks) → is_some (made name_of (first ts)) ≡ false → read name_of ts ≡ Err (Unexpected, ts)
+name_not_read ts h = read_none name_of ts (none_made (made name_of (first ts)) h)

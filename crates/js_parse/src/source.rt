@@ -2,13 +2,16 @@
 
 ghost use Rattle.std.specs.Prelude.{◌≡◌, ◌+◌, ◌<◌, drop, length, MatchResult, Ok, IfSome, IsTrue};
 ghost use Rattle.script_grammar.specs.Tokens.{bytes_of};
-ghost use Rattle.js_parse.specs.Next.{next_kind};
+ghost use Rattle.js_parse.specs.Next.{next_kind, made};
 ghost use Rattle.script_parser.specs.Steps.{first, take};
-ghost use Rattle.script_parser.specs.Tests.{fixed, kept_as, sees, sees_word};
-ghost use Rattle.js_parse.specs.Reading.{toks, Fails};
+ghost use Rattle.script_parser.specs.Tests.{fixed, kept_as, name_of, is_some, sees, sees_word};
+ghost use Rattle.js_parse.specs.Reading.{toks, Fails, Reads};
+ghost use Rattle.script_tree.specs.View.{name_pair};
 
 use script_text::{Kind, Reserved, Sign, Token};
-use std::alloc::{AllocError, AllocFailed};
+use script_tree::Name;
+use sqlite_items::Items;
+use std::alloc::{AllocError, AllocFailed, Global};
 
 /// Why the reading stopped, with the number of the token; at the end of the source that is their count.
 #[derive(Debug, Drop)]
@@ -115,5 +118,30 @@ impl Source<'_> {
         let rest = &self.bytes[start..];
         let size = token.end.saturating_sub(token.start).min(rest.len());
         &rest[..size]
+    }
+
+    /// Whether a name comes next.
+    #[tactic(auto, using(crate::proofs::Seen::name_is))]
+    pub(crate) fn is_name(&self, at: usize) -> bool
+        ensures is { result ≡ is_some (made name_of (first (toks self.now.bytes.now self.now.tokens.now at))) }
+        ensures within { IsTrue result → at < length self.now.tokens.now }
+    {
+        match self.kind(at) {
+            Some(Kind::Name) => true,
+            _ => false,
+        }
+    }
+
+    /// A name.
+    #[tactic(auto, using(crate::proofs::Seen::name_read, crate::proofs::Seen::name_not_read))]
+    pub(crate) fn name(&self, alloc: Global, at: usize) -> Result<(Name, usize), Stop>
+        ensures { Reads name_pair (take name_of) self.now.bytes.now self.now.tokens.now at result }
+    {
+        if self.is_name(at) {
+            let text = Items::from_slice(alloc, self.spelling(&self.tokens[at]))?;
+            Ok((Name { at, text }, at + 1))
+        } else {
+            Err(Stop::Unexpected(at))
+        }
     }
 }

@@ -10,6 +10,9 @@ use Rattle.script_tree.specs.declared.Access.TheVariants as access
 use Rattle.script_tree.specs.declared.Expr.{Expr, fold-Expr}
 use Rattle.script_tree.specs.declared.Expr.TheOpen.{Expr-F}
 
+abbrev pub name_pair : Name → ℕ × List ℕ
+name_pair n = (n.at, n.text)
+
 abbrev pub word_of : Label → Word
 word_of (label.Name n) = Named n.at n.text
 word_of (label.Reserved r) = Reserve r
