@@ -11,8 +11,8 @@ use Rattle.script_text.specs.declared.token.Kind.TheVariants as kind
 use Rattle.script_text.specs.Lexical.{largest}
 use Rattle.script_grammar.specs.Tokens.{Tok, Name, Kept, Integer, Text, Fixed, Other, Toks, bytes_of, text_value, as_text, seen_as, seen, seen_from}
 use Rattle.script_parser.specs.Steps.{Unexpected, Parser, taken, take as read, first}
-use Rattle.script_parser.specs.Tests.{code, fixed, kept_as, is_some, sees, sees_word, name_of}
-use Rattle.js_parse.specs.Next.{next_kind, is_sign, is_word, is_name, made}
+use Rattle.script_parser.specs.Tests.{code, fixed, kept_as, is_some, sees, sees_word, name_of, unary_of, link_of}
+use Rattle.js_parse.specs.Next.{next_kind, is_sign, is_word, is_name, unary_kind, link_kind, made, linked}
 use Rattle.js_parse.specs.Reading.{toks}
 
 -- what is seen of an integer and of a text
@@ -173,3 +173,34 @@ name_read bytes tokens at t l h = read_some name_of bytes tokens at (at, bytes_o
 
 pub name_not_read : (ts : Toks) → is_some (made name_of (first ts)) ≡ false → read name_of ts ≡ Err (Unexpected, ts)
 name_not_read ts h = read_none name_of ts (none_made (made name_of (first ts)) h)
+
+kind_unary : (bytes : List ℕ) (k : ℕ) (c : Kind) → unary_of (seen_as bytes k c) ≡ unary_kind (Some c)
+kind_unary bytes k kind.Name = refl
+kind_unary bytes k (kind.Reserved r) = refl
+kind_unary bytes k (kind.Integer n) = let P : Tok → Type 0 = λ t. unary_of t ≡ None in integer_cases P n refl refl
+kind_unary bytes k kind.Text = let P : Tok → Type 0 = λ t. unary_of t ≡ None in text_cases P (text_value bytes) refl (λ v. refl)
+kind_unary bytes k (kind.Sign r) = refl
+
+unary_list : (bytes : List ℕ) (k : ℕ) (ts : List Token) → made unary_of (first (seen_from bytes k ts)) ≡ unary_kind (next_kind ts)
+unfolding seen_from
+unary_list bytes k [] = refl
+unary_list bytes k (t ∷ ts) = kind_unary (bytes_of bytes t) k t.kind
+
+pub unary_is : (bytes : List ℕ) (tokens : List Token) (at : ℕ) → made unary_of (first (toks bytes tokens at)) ≡ unary_kind (next_kind (drop at tokens))
+unary_is bytes tokens at = unary_list bytes at (drop at tokens)
+
+kind_link : (l : ℕ) (bytes : List ℕ) (k : ℕ) (c : Kind) → link_of l (seen_as bytes k c) ≡ link_kind l (Some c)
+kind_link l bytes k kind.Name = refl
+kind_link l bytes k (kind.Reserved r) = refl
+kind_link l bytes k (kind.Integer n) = let P : Tok → Type 0 = λ t. link_of l t ≡ None in integer_cases P n refl refl
+kind_link l bytes k kind.Text = let P : Tok → Type 0 = λ t. link_of l t ≡ None in text_cases P (text_value bytes) refl (λ v. refl)
+kind_link l bytes k (kind.Sign r) = refl
+
+link_list : (l : ℕ) (bytes : List ℕ) (k : ℕ) (ts : List Token) → made (link_of l) (first (seen_from bytes k ts)) ≡ link_kind l (next_kind ts)
+unfolding seen_from
+link_list l bytes k [] = refl
+link_list l bytes k (t ∷ ts) = kind_link l (bytes_of bytes t) k t.kind
+
+pub link_is : (l : ℕ) (bytes : List ℕ) (tokens : List Token) (at : ℕ) → linked l (toks bytes tokens at) ≡ link_kind l (next_kind (drop at tokens))
+unfolding linked
+link_is l bytes tokens at = link_list l bytes at (drop at tokens)

@@ -6,8 +6,10 @@ use Rattle.script_text.specs.Words.{word_code}
 use Rattle.script_text.specs.declared.token.Token.{Token}
 use Rattle.script_text.specs.declared.token.Kind.{Kind}
 use Rattle.script_text.specs.declared.token.Kind.TheVariants as kind
-use Rattle.script_grammar.specs.Tokens.{Tok}
-use Rattle.script_parser.specs.Tests.{code}
+use Rattle.script_grammar.specs.Tokens.{Tok, Toks}
+use Rattle.script_parser.specs.Steps.{first}
+use Rattle.script_grammar.specs.Rules.{is_unary, level_of}
+use Rattle.script_parser.specs.Tests.{code, link_of}
 
 abbrev pub next_kind : List Token → Option Kind
 next_kind [] = None
@@ -29,3 +31,15 @@ is_name _ = false
 abbrev pub made : {A : Type 0} → (Tok → Option A) → Option Tok → Option A
 made f None = None
 made f (Some t) = f t
+
+abbrev pub unary_kind : Option Kind → Option Sign
+unary_kind (Some (kind.Sign s)) = if is_unary s then Some s else None
+unary_kind _ = None
+
+abbrev pub link_kind : ℕ → Option Kind → Option Sign
+link_kind l (Some (kind.Sign s)) = if level_of s == l then Some s else None
+link_kind l _ = None
+
+-- the operator of this level that comes next
+unfoldable pub linked : ℕ → Toks → Option Sign
+linked l ts = made (link_of l) (first ts)

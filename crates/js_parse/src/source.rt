@@ -2,9 +2,10 @@
 
 ghost use Rattle.std.specs.Prelude.{◌≡◌, ◌+◌, ◌<◌, drop, length, MatchResult, Ok, IfSome, IsTrue};
 ghost use Rattle.script_grammar.specs.Tokens.{bytes_of};
-ghost use Rattle.js_parse.specs.Next.{next_kind, made};
+ghost use Rattle.js_parse.specs.Next.{next_kind, made, linked};
 ghost use Rattle.script_parser.specs.Steps.{first, take};
-ghost use Rattle.script_parser.specs.Tests.{fixed, kept_as, name_of, is_some, sees, sees_word};
+ghost use Rattle.script_parser.specs.Tests.{fixed, kept_as, name_of, unary_of, is_some, sees, sees_word};
+ghost use Rattle.script_grammar.specs.Rules.{is_unary, level_of};
 ghost use Rattle.js_parse.specs.Reading.{toks, Fails, Reads};
 ghost use Rattle.script_tree.specs.View.{name_pair};
 
@@ -143,5 +144,65 @@ impl Source<'_> {
         } else {
             Err(Stop::Unexpected(at))
         }
+    }
+
+    /// The sign before an operand that comes next.
+    #[tactic(auto, using(crate::proofs::Seen::unary_is))]
+    pub(crate) fn unary_sign(&self, at: usize) -> Option<Sign>
+        ensures is { result ≡ made unary_of (first (toks self.now.bytes.now self.now.tokens.now at)) }
+        ensures within { IfSome result (λ _. at < length self.now.tokens.now) }
+    {
+        match self.kind(at) {
+            Some(Kind::Sign(sign)) => {
+                if is_unary(sign) {
+                    Some(sign)
+                } else {
+                    None
+                }
+            }
+            _ => None,
+        }
+    }
+
+    /// The operator of this level that comes next.
+    #[tactic(auto, using(crate::proofs::Seen::link_is))]
+    pub(crate) fn link_sign(&self, at: usize, level: usize) -> Option<Sign>
+        ensures is { result ≡ linked level (toks self.now.bytes.now self.now.tokens.now at) }
+        ensures within { IfSome result (λ _. at < length self.now.tokens.now) }
+    {
+        match self.kind(at) {
+            Some(Kind::Sign(sign)) => {
+                if level_of(sign) == level {
+                    Some(sign)
+                } else {
+                    None
+                }
+            }
+            _ => None,
+        }
+    }
+}
+
+fn is_unary(sign: Sign) -> bool
+    ensures { result ≡ is_unary sign }
+{
+    match sign {
+        Sign::Not | Sign::Minus => true,
+        _ => false,
+    }
+}
+
+/// The level of a binary operator, from 0, the tightest, to 5; 6 for other signs.
+fn level_of(sign: Sign) -> usize
+    ensures { result ≡ level_of sign }
+{
+    match sign {
+        Sign::Star | Sign::Percent => 0,
+        Sign::Plus | Sign::Minus => 1,
+        Sign::Less | Sign::AtMost | Sign::Greater | Sign::AtLeast => 2,
+        Sign::Same | Sign::NotSame => 3,
+        Sign::And => 4,
+        Sign::Or => 5,
+        _ => 6,
     }
 }
