@@ -11,9 +11,13 @@ use Rattle.script_text.specs.declared.token.Kind.TheVariants as kind
 use Rattle.script_text.specs.Lexical.{largest}
 use Rattle.script_grammar.specs.Tokens.{Tok, Name, Kept, Integer, Text, Fixed, Other, Toks, bytes_of, text_value, as_text, seen_as, seen, seen_from}
 use Rattle.script_parser.specs.Steps.{Unexpected, Parser, taken, take as read, first}
-use Rattle.script_parser.specs.Tests.{code, fixed, kept_as, is_some, sees, sees_word, name_of, unary_of, link_of}
-use Rattle.js_parse.specs.Next.{next_kind, is_sign, is_word, is_name, unary_kind, link_kind, made, linked}
+use Rattle.script_parser.specs.Tests.{code, fixed, kept_as, is_some, sees, sees_word, name_of, word_of, unary_of, link_of, begins_suffix}
+use Rattle.js_parse.specs.Next.{next_kind, is_sign, is_word, is_name, reserved_kind, first_bytes, unary_kind, link_kind, made, linked}
 use Rattle.js_parse.specs.Reading.{toks}
+use Rattle.js_parse.specs.Lists.{suffix_next}
+use Rattle.std.specs.Prelude.{◌||◌}
+use Rattle.script_grammar.specs.Trees.{Word, Named, Reserve}
+use Rattle.script_text.specs.declared.sign.Sign.TheVariants.{Same, NotSame, AtMost, AtLeast, And, Or, OpenRound, CloseRound, OpenBrace, CloseBrace, OpenSquare, CloseSquare, Comma, Semicolon, Colon, Dot, Question, Assign, Less, Greater, Plus, Minus, Star, Percent, Not}
 
 -- what is seen of an integer and of a text
 integer_cases : (P : Tok → Type 0) (n : ℕ) → P Other → P (Integer n) → P (if nat_lt largest n then Other else Integer n)
@@ -204,3 +208,118 @@ link_list l bytes k (t ∷ ts) = kind_link l (bytes_of bytes t) k t.kind
 pub link_is : (l : ℕ) (bytes : List ℕ) (tokens : List Token) (at : ℕ) → linked l (toks bytes tokens at) ≡ link_kind l (next_kind (drop at tokens))
 unfolding linked
 link_is l bytes tokens at = link_list l bytes at (drop at tokens)
+
+suffix_token : (t : Tok) → begins_suffix t ≡ (sees Dot (Some t) || sees OpenSquare (Some t))
+suffix_token (Name at bytes) = refl
+suffix_token (Kept r) = refl
+suffix_token (Integer n) = refl
+suffix_token (Text b) = refl
+suffix_token Other = refl
+suffix_token (Fixed Same) = refl
+suffix_token (Fixed NotSame) = refl
+suffix_token (Fixed AtMost) = refl
+suffix_token (Fixed AtLeast) = refl
+suffix_token (Fixed And) = refl
+suffix_token (Fixed Or) = refl
+suffix_token (Fixed OpenRound) = refl
+suffix_token (Fixed CloseRound) = refl
+suffix_token (Fixed OpenBrace) = refl
+suffix_token (Fixed CloseBrace) = refl
+suffix_token (Fixed OpenSquare) = refl
+suffix_token (Fixed CloseSquare) = refl
+suffix_token (Fixed Comma) = refl
+suffix_token (Fixed Semicolon) = refl
+suffix_token (Fixed Colon) = refl
+suffix_token (Fixed Dot) = refl
+suffix_token (Fixed Question) = refl
+suffix_token (Fixed Assign) = refl
+suffix_token (Fixed Less) = refl
+suffix_token (Fixed Greater) = refl
+suffix_token (Fixed Plus) = refl
+suffix_token (Fixed Minus) = refl
+suffix_token (Fixed Star) = refl
+suffix_token (Fixed Percent) = refl
+suffix_token (Fixed Not) = refl
+
+suffix_first : (c : Option Tok) → suffix_next c ≡ (sees Dot c || sees OpenSquare c)
+suffix_first None = refl
+suffix_first (Some t) = suffix_token t
+
+pub suffix_is : (bytes : List ℕ) (tokens : List Token) (at : ℕ) → suffix_next (first (toks bytes tokens at)) ≡ (sees Dot (first (toks bytes tokens at)) || sees OpenSquare (first (toks bytes tokens at)))
+suffix_is bytes tokens at = suffix_first (first (toks bytes tokens at))
+
+-- ---- keys
+key_of_name : (c : Option Tok) (n : ℕ × List ℕ) → made name_of c ≡ Some n → made word_of c ≡ Some (Named n.0 n.1)
+key_of_name None n h = absurd cc
+key_of_name (Some (Name at bytes)) n h = let same : (at, bytes) ≡ n = cc in ap (λ (p : ℕ × List ℕ). Some (Named p.0 p.1)) same
+key_of_name (Some (Kept r)) n h = absurd cc
+key_of_name (Some (Integer m)) n h = absurd cc
+key_of_name (Some (Text b)) n h = absurd cc
+key_of_name (Some Other) n h = absurd cc
+key_of_name (Some (Fixed s)) n h = absurd cc
+
+read_made : {A : Type 0} (f : Tok → Option A) (ts rest : Toks) (a : A) → read f ts ≡ Ok (a, rest) → made f (first ts) ≡ Some a
+unfolding read
+read_made f [] rest a h = absurd cc
+read_made {A = A} f (t ∷ ts) rest a h = go (f t) h
+  where
+    go : (o : Option A) → taken o t ts ≡ Ok (a, rest) → o ≡ Some a
+    go None h = absurd cc
+    go (Some b) h = let same : (b, ts) ≡ (a, rest) = cc in ap (λ (p : A × Toks). Some p.0) same
+
+read_left : {A B : Type 0} (f : Tok → Option A) (g : Tok → Option B) (ts rest : Toks) (a : A) (b : B) → read f ts ≡ Ok (a, rest) → made g (first ts) ≡ Some b → read g ts ≡ Ok (b, rest)
+unfolding read
+read_left f g [] rest a b h k = absurd cc
+read_left {A = A} {B = B} f g (t ∷ ts) rest a b h k = go (f t) h
+  where
+    go : (o : Option A) → taken o t ts ≡ Ok (a, rest) → taken (g t) t ts ≡ Ok (b, rest)
+    go None h = absurd cc
+    go (Some c) h = let same : (c, ts) ≡ (a, rest) = cc in rw k (ap (λ (p : A × Toks). Ok (b, p.1)) same)
+
+pub key_name : (bytes : List ℕ) (tokens : List Token) (at : ℕ) (t : Token) → at < length tokens → is_some (made name_of (first (toks bytes tokens at))) ≡ true → read word_of (toks bytes tokens at) ≡ Ok (Named at (bytes_of bytes (slice_index_or tokens at t)), toks bytes tokens (at + 1))
+key_name bytes tokens at t l h =
+  let n = name_read bytes tokens at t l h in
+  read_left name_of word_of (toks bytes tokens at) (toks bytes tokens (at + 1)) (at, bytes_of bytes (slice_index_or tokens at t)) (Named at (bytes_of bytes (slice_index_or tokens at t))) n (key_of_name (first (toks bytes tokens at)) (at, bytes_of bytes (slice_index_or tokens at t)) (read_made name_of (toks bytes tokens at) (toks bytes tokens (at + 1)) (at, bytes_of bytes (slice_index_or tokens at t)) n))
+
+word_kind_list : (bytes : List ℕ) (k : ℕ) (ts : List Token) (w : Reserved) → Some w ≡ reserved_kind (next_kind ts) → made word_of (first (seen_from bytes k ts)) ≡ Some (Reserve w)
+unfolding seen_from
+word_kind_list bytes k [] w h = absurd cc
+word_kind_list bytes k (t ∷ ts) w h = go t.kind h
+  where
+    go : (c : Kind) → Some w ≡ reserved_kind (Some c) → word_of (seen_as (bytes_of bytes t) k c) ≡ Some (Reserve w)
+    go kind.Name h = absurd cc
+    go (kind.Integer n) h = absurd cc
+    go kind.Text h = absurd cc
+    go (kind.Sign s) h = absurd cc
+    go (kind.Reserved r) h = let same : r ≡ w = cc in ap (λ (r : Reserved). Some (Reserve r)) same
+
+pub key_reserved : (bytes : List ℕ) (tokens : List Token) (at : ℕ) (w : Reserved) → Some w ≡ reserved_kind (next_kind (drop at tokens)) → read word_of (toks bytes tokens at) ≡ Ok (Reserve w, toks bytes tokens (at + 1))
+key_reserved bytes tokens at w h = read_some word_of bytes tokens at (Reserve w) (word_kind_list bytes at (drop at tokens) w h)
+
+no_key_kind : (bytes : List ℕ) (k : ℕ) (c : Kind) → is_name (Some c) ≡ false → None ≡ reserved_kind (Some c) → word_of (seen_as bytes k c) ≡ None
+no_key_kind bytes k kind.Name h r = absurd cc
+no_key_kind bytes k (kind.Reserved w) h r = absurd cc
+no_key_kind bytes k (kind.Integer n) h r = let P : Tok → Type 0 = λ t. word_of t ≡ None in integer_cases P n refl refl
+no_key_kind bytes k kind.Text h r = let P : Tok → Type 0 = λ t. word_of t ≡ None in text_cases P (text_value bytes) refl (λ v. refl)
+no_key_kind bytes k (kind.Sign s) h r = refl
+
+no_key_list : (bytes : List ℕ) (k : ℕ) (ts : List Token) → is_name (next_kind ts) ≡ false → None ≡ reserved_kind (next_kind ts) → made word_of (first (seen_from bytes k ts)) ≡ None
+unfolding seen_from
+no_key_list bytes k [] h r = refl
+no_key_list bytes k (t ∷ ts) h r = no_key_kind (bytes_of bytes t) k t.kind h r
+
+pub key_none : (bytes : List ℕ) (tokens : List Token) (at : ℕ) → is_some (made name_of (first (toks bytes tokens at))) ≡ false → None ≡ reserved_kind (next_kind (drop at tokens)) → read word_of (toks bytes tokens at) ≡ Err (Unexpected, toks bytes tokens at)
+key_none bytes tokens at h r = read_none word_of (toks bytes tokens at) (no_key_list bytes at (drop at tokens) (sym (name_is bytes tokens at) ∙ h) r)
+
+pub first_bytes_is : (bytes : List ℕ) (tokens : List Token) (at : ℕ) (t : Token) → at < length tokens → first_bytes bytes (drop at tokens) ≡ bytes_of bytes (slice_index_or tokens at t)
+first_bytes_is bytes tokens at t l = let e : drop at tokens ≡ slice_index_or tokens at t ∷ drop (at + 1) tokens = rw (add-one, drop-cons tokens at t) refl in rw e refl
+
+some_token : (tokens : List Token) (at : ℕ) → at < length tokens → Token
+some_token [] at l = absurd (omega (arith, l))
+some_token (t ∷ ts) at l = t
+
+pub name_here : (bytes : List ℕ) (tokens : List Token) (at : ℕ) (n : ℕ × List ℕ) → at < length tokens → is_some (made name_of (first (toks bytes tokens at))) ≡ true → n ≡ (at, first_bytes bytes (drop at tokens)) → read name_of (toks bytes tokens at) ≡ Ok (n, toks bytes tokens (at + 1))
+name_here bytes tokens at n l h e = let t = some_token tokens at l in rw (e, first_bytes_is bytes tokens at t l) (name_read bytes tokens at t l h)
+
+pub key_here : (bytes : List ℕ) (tokens : List Token) (at : ℕ) (n : ℕ × List ℕ) → at < length tokens → is_some (made name_of (first (toks bytes tokens at))) ≡ true → n ≡ (at, first_bytes bytes (drop at tokens)) → read word_of (toks bytes tokens at) ≡ Ok (Named n.0 n.1, toks bytes tokens (at + 1))
+key_here bytes tokens at n l h e = let t = some_token tokens at l in rw (e, first_bytes_is bytes tokens at t l) (key_name bytes tokens at t l h)

@@ -6,7 +6,7 @@ use Rattle.script_text.specs.Words.{word_code}
 use Rattle.script_text.specs.declared.token.Token.{Token}
 use Rattle.script_text.specs.declared.token.Kind.{Kind}
 use Rattle.script_text.specs.declared.token.Kind.TheVariants as kind
-use Rattle.script_grammar.specs.Tokens.{Tok, Toks}
+use Rattle.script_grammar.specs.Tokens.{Tok, Toks, bytes_of}
 use Rattle.script_parser.specs.Steps.{first}
 use Rattle.script_grammar.specs.Rules.{is_unary, level_of}
 use Rattle.script_parser.specs.Tests.{code, link_of}
@@ -43,3 +43,12 @@ link_kind l _ = None
 -- the operator of this level that comes next
 unfoldable pub linked : ℕ → Toks → Option Sign
 linked l ts = made (link_of l) (first ts)
+
+abbrev pub reserved_kind : Option Kind → Option Reserved
+reserved_kind (Some (kind.Reserved r)) = Some r
+reserved_kind _ = None
+
+-- the bytes of the first token
+abbrev pub first_bytes : List ℕ → List Token → List ℕ
+first_bytes bytes [] = []
+first_bytes bytes (t ∷ ts) = bytes_of bytes t

@@ -1,16 +1,18 @@
 //! The tokens of a source, and the steps that read one of them.
 
-ghost use Rattle.std.specs.Prelude.{◌≡◌, ◌+◌, ◌<◌, drop, length, MatchResult, Ok, IfSome, IsTrue};
+ghost use Rattle.std.specs.Prelude.{◌≡◌, ◌+◌, ◌<◌, drop, length, MatchResult, Ok, IfOk, IfErr, IfSome, IsTrue};
 ghost use Rattle.script_grammar.specs.Tokens.{bytes_of};
-ghost use Rattle.js_parse.specs.Next.{next_kind, made, linked};
+ghost use Rattle.js_parse.specs.declared.source.Stop.TheVariants as stop;
+ghost use Rattle.js_parse.specs.Next.{next_kind, first_bytes, reserved_kind, made, linked};
 ghost use Rattle.script_parser.specs.Steps.{first, take};
-ghost use Rattle.script_parser.specs.Tests.{fixed, kept_as, name_of, unary_of, is_some, sees, sees_word};
+ghost use Rattle.script_parser.specs.Tests.{fixed, kept_as, name_of, word_of, unary_of, is_some, sees, sees_word};
 ghost use Rattle.script_grammar.specs.Rules.{is_unary, level_of};
 ghost use Rattle.js_parse.specs.Reading.{toks, Fails, Reads};
-ghost use Rattle.script_tree.specs.View.{name_pair};
+ghost use Rattle.script_tree.specs.View.{name_pair, word_of as word_view};
+ghost use Rattle.js_parse.specs.Lists.{suffix_next, Forward};
 
 use script_text::{Kind, Reserved, Sign, Token};
-use script_tree::Name;
+use script_tree::{Label, Name};
 use sqlite_items::Items;
 use std::alloc::{AllocError, AllocFailed, Global};
 
@@ -89,7 +91,8 @@ impl Source<'_> {
     /// The place behind this sign.
     #[tactic(auto, using(crate::proofs::Seen::sign_read, crate::proofs::Seen::sign_not_read))]
     pub(crate) fn expect(&self, at: usize, sign: Sign) -> Result<usize, Stop>
-        ensures { MatchResult result (λ next. take (fixed sign) (toks self.now.bytes.now self.now.tokens.now at) ≡ Ok (tt, toks self.now.bytes.now self.now.tokens.now next)) (λ f. Fails self.now.bytes.now self.now.tokens.now f (take (fixed sign) (toks self.now.bytes.now self.now.tokens.now at))) }
+        ensures is { MatchResult result (λ next. take (fixed sign) (toks self.now.bytes.now self.now.tokens.now at) ≡ Ok (tt, toks self.now.bytes.now self.now.tokens.now next)) (λ f. Fails self.now.bytes.now self.now.tokens.now f (take (fixed sign) (toks self.now.bytes.now self.now.tokens.now at))) }
+        ensures forward { IfOk result (λ next. at < next) }
     {
         if self.sees(at, sign) {
             Ok(at + 1)
@@ -101,7 +104,8 @@ impl Source<'_> {
     /// The place behind this word.
     #[tactic(auto, using(crate::proofs::Seen::word_read, crate::proofs::Seen::word_not_read))]
     pub(crate) fn keyword(&self, at: usize, word: Reserved) -> Result<usize, Stop>
-        ensures { MatchResult result (λ next. take (kept_as word) (toks self.now.bytes.now self.now.tokens.now at) ≡ Ok (tt, toks self.now.bytes.now self.now.tokens.now next)) (λ f. Fails self.now.bytes.now self.now.tokens.now f (take (kept_as word) (toks self.now.bytes.now self.now.tokens.now at))) }
+        ensures is { MatchResult result (λ next. take (kept_as word) (toks self.now.bytes.now self.now.tokens.now at) ≡ Ok (tt, toks self.now.bytes.now self.now.tokens.now next)) (λ f. Fails self.now.bytes.now self.now.tokens.now f (take (kept_as word) (toks self.now.bytes.now self.now.tokens.now at))) }
+        ensures forward { IfOk result (λ next. at < next) }
     {
         if self.sees_word(at, word) {
             Ok(at + 1)
@@ -133,14 +137,36 @@ impl Source<'_> {
         }
     }
 
+    /// The name that this token is.
+    #[tactic(auto, using(crate::proofs::Seen::first_bytes_is))]
+    fn made_name(&self, alloc: Global, at: usize) -> Result<Name, Stop>
+        requires { at < length self.now.tokens.now }
+        ensures name { IfOk result (λ n. name_pair n ≡ (at, first_bytes self.now.bytes.now (drop at self.now.tokens.now))) }
+        ensures memory { IfErr result (λ f. f ≡ stop.Memory) }
+    {
+        let text = Items::from_slice(alloc, self.spelling(&self.tokens[at]))?;
+        Ok(Name { at, text })
+    }
+
+    /// The word that is no name that comes next.
+    pub(crate) fn reserved(&self, at: usize) -> Option<Reserved>
+        ensures is { result ≡ reserved_kind (next_kind (drop at self.now.tokens.now)) }
+        ensures within { IfSome result (λ _. at < length self.now.tokens.now) }
+    {
+        match self.kind(at) {
+            Some(Kind::Reserved(word)) => Some(word),
+            _ => None,
+        }
+    }
+
     /// A name.
-    #[tactic(auto, using(crate::proofs::Seen::name_read, crate::proofs::Seen::name_not_read))]
+    #[tactic(auto, using(crate::proofs::Seen::name_here, crate::proofs::Seen::name_not_read))]
     pub(crate) fn name(&self, alloc: Global, at: usize) -> Result<(Name, usize), Stop>
-        ensures { Reads name_pair (take name_of) self.now.bytes.now self.now.tokens.now at result }
+        ensures is { Reads name_pair (take name_of) self.now.bytes.now self.now.tokens.now at result }
+        ensures forward { Forward at result }
     {
         if self.is_name(at) {
-            let text = Items::from_slice(alloc, self.spelling(&self.tokens[at]))?;
-            Ok((Name { at, text }, at + 1))
+            Ok((self.made_name(alloc, at)?, at + 1))
         } else {
             Err(Stop::Unexpected(at))
         }
@@ -179,6 +205,30 @@ impl Source<'_> {
                 }
             }
             _ => None,
+        }
+    }
+
+    /// Whether a member or an index comes next.
+    #[tactic(auto, using(crate::proofs::Seen::suffix_is))]
+    pub(crate) fn begins_suffix(&self, at: usize) -> bool
+        ensures is { result ≡ suffix_next (first (toks self.now.bytes.now self.now.tokens.now at)) }
+        ensures within { IsTrue result → at < length self.now.tokens.now }
+    {
+        self.sees(at, Sign::Dot) || self.sees(at, Sign::OpenSquare)
+    }
+
+    /// A word in the place of a key.
+    #[tactic(auto, using(crate::proofs::Seen::key_here, crate::proofs::Seen::key_reserved, crate::proofs::Seen::key_none))]
+    pub(crate) fn label(&self, alloc: Global, at: usize) -> Result<(Label, usize), Stop>
+        ensures is { Reads word_view (take word_of) self.now.bytes.now self.now.tokens.now at result }
+        ensures forward { Forward at result }
+    {
+        if self.is_name(at) {
+            return Ok((Label::Name(self.made_name(alloc, at)?), at + 1));
+        }
+        match self.reserved(at) {
+            Some(word) => Ok((Label::Reserved(word), at + 1)),
+            None => Err(Stop::Unexpected(at)),
         }
     }
 }
