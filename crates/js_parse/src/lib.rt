@@ -2,4 +2,5 @@
 #![tactic(auto)]
 
 
+mod expr;
 mod source;

@@ -1,5 +1,5 @@
 -- What tokens are a program, and which token is the first with which they are none.
-use Rattle.std.specs.Prelude.{◌≡◌, ℕ, suc, true, false, List, [], ◌∷◌, ◌++◌, length}
+use Rattle.std.specs.Prelude.{◌≡◌, ℕ, suc, true, false, [], ◌∷◌, ◌++◌, length}
 use Rattle.script_grammar.specs.Tokens.{Tok, Toks}
 use Rattle.script_grammar.specs.Trees.{Program}
 use Rattle.script_grammar.specs.Spelling.{spell_program}

@@ -1,6 +1,6 @@
 -- What a derivation keeps besides its spelling: how tightly operators bind, what may be assigned and deleted, and
 -- where an `else` belongs. And which tokens open how many levels.
-use Rattle.std.specs.Prelude.{◌≡◌, ℕ, zero, suc, ◌-◌, ◌<◌, Bool, true, false, ◌&&◌, List, [], ◌∷◌, length}
+use Rattle.std.specs.Prelude.{◌≡◌, ℕ, zero, suc, ◌-◌, ◌<◌, Bool, true, false, ◌&&◌, [], ◌∷◌, length}
 use Rattle.script_text.specs.declared.sign.Sign.{Sign}
 use Rattle.script_text.specs.declared.sign.Sign.TheVariants.{Same, NotSame, AtMost, AtLeast, Less, Greater, And, Or, Plus, Minus, Star, Percent, Not, OpenBrace}
 use Rattle.script_grammar.specs.Tokens.{Tok, Fixed, Toks}

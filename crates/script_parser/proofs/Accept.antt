@@ -1,22 +1,21 @@
 -- Every expression is read from its spelling.
-use Rattle.std.proofs.Common.{◌≡◌, ℕ, zero, suc, ◌+◌, ◌-◌, ◌<◌, ◌≤◌, Bool, true, false, List, [], ◌∷◌, ◌++◌, length, Option, Some, None, Result, Ok, Err, refl, sym, ap, subst, ◌∙◌, append_assoc, append-nil, arith, ◌⊎◌, inl, inr, length-append}
-use Rattle.std.specs.Prelude.{◌&&◌, if◌then◌else◌}
+use Rattle.std.proofs.Common.{◌≡◌, ℕ, zero, suc, ◌-◌, ◌<◌, ◌≤◌, Bool, true, false, List, [], ◌∷◌, ◌++◌, length, Option, Some, Ok, refl, ap, subst, ◌∙◌, append_assoc, arith, ◌⊎◌, inl, inr}
+use Rattle.std.specs.Prelude.{◌&&◌}
 use Rattle.script_text.specs.declared.sign.Sign.{Sign}
 use Rattle.script_text.specs.declared.sign.Sign.TheVariants.{OpenRound, CloseRound, OpenBrace, CloseBrace, OpenSquare, CloseSquare, Comma, Colon, Dot as Point, Question}
-use Rattle.script_text.specs.declared.word.Reserved.{Reserved}
 use Rattle.script_grammar.specs.Tokens.{Tok, Name, Kept, Integer, Text, Fixed, Toks}
 use Rattle.script_grammar.specs.Trees.{Lit, Number, Quote, True, False, Null, Undefined, Word, Named, Reserve, Ex, Literal, Var, Round, ListOf, Object, Member, Unary, Chain, Choice, Elems, NoElems, LastElem, ThenElem, Prop, Keyed, Quoted, Short, Props, NoProps, LastProp, ThenProp, Suffix, Dot, Index, Suffixes, NoSuffixes, ThenSuffix, Links, NoLinks, ThenLink}
 use Rattle.script_grammar.specs.Spelling.{spell_lit, spell_word, spell_ex, spell_elems, spell_prop, spell_props, spell_suffix, spell_suffixes, spell_links}
 use Rattle.script_grammar.specs.Rules.{level_of, is_unary, is_atom, Binds, BindsElems, BindsProp, BindsProps, BindsSuffix, BindsSuffixes, BindsLinks, opens, within, within_elems, within_prop, within_props, within_suffix, within_suffixes, within_links}
-use Rattle.script_parser.specs.Steps.{Why, Unexpected, TooNested, Parser, ◌>>=◌, pure, take, too_deep, first, look, many_by, many}
+use Rattle.script_parser.specs.Steps.{Parser, ◌>>=◌, pure, first, look, many_by}
 use Rattle.script_parser.specs.Tests.{fixed, name_of, text_of, word_of, lit_of, unary_of, link_of, sees, sees_unary, begins_suffix, begins_link}
-use Rattle.script_parser.specs.Parser.{Below, expect, opened, named, literal, rounded, elems, listed, valued, short_by, prop_by, prop, props, objected, atom_by, atom, index, dot, suffix_by, suffix, suffixes, member, post, signed, unary_by, unary, then_link, chained, link, links, chain, choice, choice_by, expr, stmt, item, below}
-use Rattle.script_parser.proofs.Tests.{is_fixed, is_word, is_lit, is_unary_sign, is_link}
-use Rattle.script_parser.proofs.Languages.{Goods, GoodBelow}
-use Rattle.script_parser.proofs.Expressions.{binds_more, good_chain, elems_is, props_is, suffixes_is, links_is}
+use Rattle.script_parser.specs.Parser.{Below, expect, opened, rounded, elems, listed, valued, short_by, prop, props, objected, atom, index, suffix, suffixes, member, post, signed, unary, then_link, chained, link, links, chain, choice, choice_by, expr, stmt, item, below}
+use Rattle.script_parser.proofs.Tests.{is_fixed, is_word, is_unary_sign, is_link}
+use Rattle.script_parser.proofs.Languages.{Goods}
+use Rattle.script_parser.proofs.Expressions.{good_chain, elems_is, props_is, suffixes_is, links_is}
 use Rattle.script_parser.proofs.Statements.{good_below}
-use Rattle.script_parser.proofs.Takes.{Takes, takes_as, takes_same, takes_bind, takes_first, takes_map, take_token, take_sign, behind, behind_sign, takes_deep, takes_pure, stopped, many_nil, many_cons_at, separated_nil, separated_last_at, separated_then_at}
-use Rattle.script_parser.proofs.Follow.{stop, stop_link, no_suffix, no_link, no_question, starts, begun, no_square, no_close_brace}
+use Rattle.script_parser.proofs.Takes.{Takes, takes_as, takes_same, takes_bind, takes_first, takes_map, take_token, take_sign, behind, behind_sign, takes_deep, takes_pure, many_cons_at, separated_nil, separated_last_at, separated_then_at}
+use Rattle.script_parser.proofs.Follow.{stop, stop_link, no_suffix, no_link, no_question, begun, no_square}
 
 -- the parsers below d levels, as they are given one level up
 abbrev pub under : ℕ → Below
@@ -37,7 +36,7 @@ suffix_stops : (d : ℕ) (rest : Toks) → 0 < stop (first rest) → suffixes (b
 suffix_stops d [] h = suffixes_is d (below d) (good_below d) []
 suffix_stops d (t ∷ ts) h = suffixes_is d (below d) (good_below d) (t ∷ ts) ∙ rw (no_suffix t h) refl
 
-chain_good : (d k : ℕ) → k ≤ 6 → (ts : Toks) → k < 6 → links k (chain (below d) k) ts ≡ look (many_by (begins_link k) (link k (chain (below d) k)) NoLinks then_link (links k (chain (below d) k))) ts
+pub chain_good : (d k : ℕ) → k ≤ 6 → (ts : Toks) → k < 6 → links k (chain (below d) k) ts ≡ look (many_by (begins_link k) (link k (chain (below d) k)) NoLinks then_link (links k (chain (below d) k))) ts
 chain_good d k h ts l = links_is k d (chain (below d) k) l (good_chain d (below d) (good_below d) k h) ts
 
 link_stops : (d k : ℕ) (rest : Toks) → k < 6 → suc k < stop (first rest) → links k (chain (below d) k) rest ≡ Ok (NoLinks, rest)
@@ -105,7 +104,7 @@ from_atom : (e : Ex) → is_atom e ≡ true → ((l : ℕ) → Binds l e → Bin
 from_atom e a down h = record {
   atomic = λ d rest q b. h d rest b;
   upto = λ l d rest m b s u. from_post e (λ rest. plain_front e rest a) (λ d rest b s. lift_post (within e d) d (spell_ex e) e rest s (h d rest b)) l d rest m (down l b) s u;
-  whole = λ d rest b s. lift_expr (within e d) d (spell_ex e) e rest s (from_post e (λ rest. plain_front e rest a) (λ d rest b s. lift_post (within e d) d (spell_ex e) e rest s (h d rest b)) 7 d rest (omega arith) (down 8 b) (omega (arith, s)) (omega (arith, s)))
+  whole = λ d rest b s. lift_expr (within e d) d (spell_ex e) e rest s (from_post e (λ rest. plain_front e rest a) (λ d rest b s. lift_post (within e d) d (spell_ex e) e rest s (h d rest b)) 7 d rest (omega arith) (down 8 b) (omega (arith, s)) (omega (arith, s)));
 }
 
 -- ---- the parts of a list stop where they should
@@ -157,34 +156,34 @@ from_member : (e : Ex) (s : Suffix) (ss : Suffixes) → ((d : ℕ) (rest : Toks)
 from_member e s ss h = record {
   atomic = λ d rest q b. absurd cc;
   upto = λ l d rest m b k u. from_post (Member e s ss) (λ rest. member_front e s ss rest b.0) h l d rest m b k u;
-  whole = λ d rest b k. lift_expr (within (Member e s ss) d) d (spell_ex (Member e s ss)) (Member e s ss) rest k (from_post (Member e s ss) (λ rest. member_front e s ss rest b.0) h 7 d rest (omega arith) b (omega (arith, k)) (omega (arith, k)))
+  whole = λ d rest b k. lift_expr (within (Member e s ss) d) d (spell_ex (Member e s ss)) (Member e s ss) rest k (from_post (Member e s ss) (λ rest. member_front e s ss rest b.0) h 7 d rest (omega arith) b (omega (arith, k)) (omega (arith, k)));
 }
 
 signs : (s : Sign) (e : Ex) (d : ℕ) (rest : Toks) → is_unary s ≡ true → ((d : ℕ) → Takes (within e d) (chain (below d) 0) (spell_ex e) e rest) → Takes (within (Unary s e) d) (chain (below d) 0) (spell_ex (Unary s e)) (Unary s e) rest
 unfolding chain
 signs s e d rest u h = takes_same (within (Unary s e) d) (unary (below d)) (opened (below d) unary_of signed) (Fixed s ∷ spell_ex e) (Unary s e) rest (rw u refl)
     (takes_opened (within e) unary_of signed (Fixed s) s (spell_ex e) (Unary s e) rest d (is_unary_sign s u)
-      (λ d. behind (within e d) unary_of (Fixed s) s (λ s. unary (below d) >>= λ e. pure (Unary s e)) (spell_ex e) (Unary s e) rest (is_unary_sign s u) (takes_map (within e d) (unary (below d)) (λ e. pure (Unary s e)) (spell_ex e) e (Unary s e) rest (h d) refl)))
+    (λ d. behind (within e d) unary_of (Fixed s) s (λ s. unary (below d) >>= λ e. pure (Unary s e)) (spell_ex e) (Unary s e) rest (is_unary_sign s u) (takes_map (within e d) (unary (below d)) (λ e. pure (Unary s e)) (spell_ex e) e (Unary s e) rest (h d) refl)))
 
 from_unary : (s : Sign) (e : Ex) → ((d : ℕ) (rest : Toks) → Binds 1 (Unary s e) → 0 < stop (first rest) → Takes (within (Unary s e) d) (chain (below d) 0) (spell_ex (Unary s e)) (Unary s e) rest) → Accepts (Unary s e)
 from_unary s e h = record {
   atomic = λ d rest q b. absurd cc;
   upto = λ l d rest m b k u. from_level (Unary s e) 0 l d rest (h d rest (omega arith, b.1, b.2) k) b.0 m u;
-  whole = λ d rest b k. lift_expr (within (Unary s e) d) d (spell_ex (Unary s e)) (Unary s e) rest k (from_level (Unary s e) 0 7 d rest (h d rest (omega arith, b.1, b.2) (omega (arith, k))) (omega arith) (omega arith) (omega (arith, k)))
+  whole = λ d rest b k. lift_expr (within (Unary s e) d) d (spell_ex (Unary s e)) (Unary s e) rest k (from_level (Unary s e) 0 7 d rest (h d rest (omega arith, b.1, b.2) (omega (arith, k))) (omega arith) (omega arith) (omega (arith, k)));
 }
 
 from_chain : (k : ℕ) (a : Ex) (s : Sign) (x : Ex) (ls : Links) → ((d : ℕ) (rest : Toks) → Binds 8 (Chain k a s x ls) → suc k < stop (first rest) → Takes (within (Chain k a s x ls) d) (chain (below d) (suc k)) (spell_ex (Chain k a s x ls)) (Chain k a s x ls) rest) → Accepts (Chain k a s x ls)
 from_chain k a s x ls h = record {
   atomic = λ d rest q b. absurd cc;
   upto = λ l d rest m b z u. from_level (Chain k a s x ls) (suc k) l d rest (h d rest (omega (arith, b.1), b.1, b.2, b.3, b.4, b.5) (omega (arith, b.0, u))) b.0 m u;
-  whole = λ d rest b z. lift_expr (within (Chain k a s x ls) d) d (spell_ex (Chain k a s x ls)) (Chain k a s x ls) rest z (from_level (Chain k a s x ls) (suc k) 7 d rest (h d rest b (omega (arith, b.1, z))) (omega (arith, b.1)) (omega arith) (omega (arith, z)))
+  whole = λ d rest b z. lift_expr (within (Chain k a s x ls) d) d (spell_ex (Chain k a s x ls)) (Chain k a s x ls) rest z (from_level (Chain k a s x ls) (suc k) 7 d rest (h d rest b (omega (arith, b.1, z))) (omega (arith, b.1)) (omega arith) (omega (arith, z)));
 }
 
 from_choice : (c x y : Ex) → ((d : ℕ) (rest : Toks) → Binds 8 (Choice c x y) → 7 < stop (first rest) → Takes (within (Choice c x y) d) (expr (below d)) (spell_ex (Choice c x y)) (Choice c x y) rest) → Accepts (Choice c x y)
 from_choice c x y h = record {
   atomic = λ d rest q b. absurd cc;
   upto = λ l d rest m b z u. absurd (omega (arith, b.0, m));
-  whole = h
+  whole = h;
 }
 
 -- the branches of a choice
@@ -192,7 +191,7 @@ branches : (c x y : Ex) (d : ℕ) (rest : Toks) → Takes (within x d) (expr (be
     → Takes (λ n. within x d (n - 1) && within y d (n - 1 - length (spell_ex x) - 1)) (choice c (under d)) (Fixed Question ∷ (spell_ex x ++ Fixed Colon ∷ spell_ex y)) (Choice c x y) rest
 branches c x y d rest h k = behind_sign (λ m. within x d m && within y d (m - length (spell_ex x) - 1)) Question (expr (below d) >>= λ x. expect Colon >>= λ _. expr (below d) >>= λ y. pure (Choice c x y)) (spell_ex x ++ Fixed Colon ∷ spell_ex y) (Choice c x y) rest
     (takes_bind (within x d) (λ n. within y d (n - 1)) (expr (below d)) (λ x. expect Colon >>= λ _. expr (below d) >>= λ y. pure (Choice c x y)) (spell_ex x) (Fixed Colon ∷ spell_ex y) x (Choice c x y) rest h
-      (behind_sign (within y d) Colon (expr (below d) >>= λ y. pure (Choice c x y)) (spell_ex y) (Choice c x y) rest (takes_map (within y d) (expr (below d)) (λ y. pure (Choice c x y)) (spell_ex y) y (Choice c x y) rest k refl)))
+    (behind_sign (within y d) Colon (expr (below d) >>= λ y. pure (Choice c x y)) (spell_ex y) (Choice c x y) rest (takes_map (within y d) (expr (below d)) (λ y. pure (Choice c x y)) (spell_ex y) y (Choice c x y) rest k refl)))
 
 chosen : (c x y : Ex) (d : ℕ) (rest : Toks) → Takes (within c d) (chain (below d) 6) (spell_ex c) c (Fixed Question ∷ ((spell_ex x ++ Fixed Colon ∷ spell_ex y) ++ rest))
     → ((d : ℕ) → Takes (λ n. within x d (n - 1) && within y d (n - 1 - length (spell_ex x) - 1)) (choice c (under d)) (Fixed Question ∷ (spell_ex x ++ Fixed Colon ∷ spell_ex y)) (Choice c x y) rest)
@@ -212,7 +211,7 @@ more_links : (s : Sign) (x : Ex) (ls : Links) (k d : ℕ) (rest : Toks) → k < 
 more_links s x ls k d rest l e h t = takes_as (λ n. within x d (n - 1) && within_links ls d (n - length (Fixed s ∷ spell_ex x))) (within_links (ThenLink s x ls) d) (links k (chain (below d) k)) (spell_links (ThenLink s x ls)) (ThenLink s x ls) rest
     (λ n. ap (λ (m : ℕ). within x d (n - 1) && within_links ls d m) (less_two n (length (spell_ex x))))
     (many_cons_at (begins_link k) (link k (chain (below d) k)) NoLinks then_link (links k (chain (below d) k)) (λ ts. chain_good d k (omega (arith, l)) ts l) (λ n. within x d (n - 1)) (within_links ls d) (Fixed s ∷ spell_ex x) (Fixed s) (spell_ex x) (spell_links ls) (s, x) ls rest refl (rw (is_link k s e) refl)
-      (linked s x k d (spell_links ls ++ rest) e h) t)
+    (linked s x k d (spell_links ls ++ rest) e h) t)
 
 -- what is left of the tokens is counted for the elements, members and suffixes behind
 prop_front : (p : Prop) → (t : Tok) × (x : Toks) × (spell_prop p ≡ t ∷ x) × (sees CloseBrace (Some t) ≡ false)
@@ -277,7 +276,7 @@ mutual
   accept (Unary s e) = from_unary s e (λ d rest b h. signs s e d rest b.1 (λ d. (accept e).upto 1 d rest (omega arith) b.2 h (omega (arith, h))))
   accept (Chain k a s x ls) = from_chain k a s x ls (λ d rest b h. let here = sign_stop s k b.1 b.3 in
       chained_links k a s x ls d rest ((accept a).upto (suc k) d ((Fixed s ∷ (spell_ex x ++ spell_links ls)) ++ rest) (omega (arith, b.1)) b.2 (rw here omega arith) (rw here omega arith))
-        (more_links s x ls k d rest b.1 b.3 ((accept x).upto (suc k) d (spell_links ls ++ rest) (omega (arith, b.1)) b.4 (omega (arith, link_front ls k rest b.1 b.5 h)) (link_front ls k rest b.1 b.5 h)) (accept_links ls k d rest b.1 b.5 h)))
+      (more_links s x ls k d rest b.1 b.3 ((accept x).upto (suc k) d (spell_links ls ++ rest) (omega (arith, b.1)) b.4 (omega (arith, link_front ls k rest b.1 b.5 h)) (link_front ls k rest b.1 b.5 h)) (accept_links ls k d rest b.1 b.5 h)))
   accept (Choice c x y) = from_choice c x y (λ d rest b h. chosen c x y d rest ((accept c).upto 7 d (Fixed Question ∷ ((spell_ex x ++ Fixed Colon ∷ spell_ex y) ++ rest)) (omega arith) b.1 (omega arith) (omega arith))
       (λ d. branches c x y d rest ((accept x).whole d (Fixed Colon ∷ (spell_ex y ++ rest)) b.2 (omega arith)) ((accept y).whole d rest b.3 h)))
 

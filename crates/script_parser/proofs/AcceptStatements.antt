@@ -1,22 +1,20 @@
 -- Every statement and every program is read from its spelling.
-use Rattle.std.proofs.Common.{◌≡◌, ℕ, zero, suc, ◌+◌, ◌-◌, ◌<◌, ◌≤◌, Bool, true, false, List, [], ◌∷◌, ◌++◌, length, Option, Some, None, Result, Ok, Err, refl, sym, ap, subst, ◌∙◌, append_assoc, append-nil, arith, ◌⊎◌, inl, inr, length-append}
+use Rattle.std.proofs.Common.{◌≡◌, ℕ, suc, ◌-◌, Bool, true, false, List, [], ◌∷◌, ◌++◌, length, Option, Some, Ok, refl, sym, subst, append_assoc, arith}
 use Rattle.std.specs.Prelude.{◌&&◌, if◌then◌else◌}
-use Rattle.script_text.specs.declared.sign.Sign.{Sign}
 use Rattle.script_text.specs.declared.sign.Sign.TheVariants.{OpenRound, CloseRound, OpenBrace, CloseBrace, Comma, Semicolon, Assign}
-use Rattle.script_text.specs.declared.word.Reserved.{Reserved}
 use Rattle.script_text.specs.declared.word.Reserved.TheVariants as kept
 use Rattle.script_grammar.specs.Tokens.{Tok, Name, Kept, Fixed, Toks}
 use Rattle.script_grammar.specs.Trees.{Ex, Stmt, Block, Empty, IfThen, IfElse, Return, ReturnOf, Throw, ThrowError, Delete, Set, Do, Item, Const, Let, LetBe, Plain, Items, NoItems, ThenItem, Params, One, Two, Reducer, Function, Program, NoReducers, ThenReducer}
 use Rattle.script_grammar.specs.Spelling.{spell_ex, spell_stmt, spell_item, spell_items, spell_params, spell_reducer, spell_program}
 use Rattle.script_grammar.specs.Rules.{is_member, is_target, Binds, opens, within, opens_brace, begins_brace, is_open, RightStmt, RightItem, RightItems, RightReducer, Right, inner_levels, within_stmt, within_item, within_items, within_reducer, within_program}
-use Rattle.script_parser.specs.Steps.{Why, Unexpected, TooNested, Parser, ◌>>=◌, pure, take, first, look, many_by, many, finish}
-use Rattle.script_parser.specs.Tests.{fixed, name_of, is_some, sees, sees_word, StmtForm, ExprForm, stmt_form, ItemForm, PlainForm, item_form, in_block}
-use Rattle.script_parser.specs.Parser.{Below, expect, keyword, opened, expr, post, items, block, inner_by, inner, else_by, may_else, conditional, ended, return_by, thrown_error, throw_by, deleted, assign_by, may_assign, stmt_by, stmt, let_by, item_by, item, below, params_by, params, reducer_body, reducer, reducers, program}
+use Rattle.script_parser.specs.Steps.{◌>>=◌, pure, take, first, look, finish}
+use Rattle.script_parser.specs.Tests.{fixed, name_of, sees, sees_word, ExprForm, PlainForm, item_form, in_block}
+use Rattle.script_parser.specs.Parser.{expect, keyword, opened, expr, post, items, block, inner, else_by, may_else, conditional, ended, return_by, thrown_error, throw_by, deleted, assign_by, may_assign, stmt_by, stmt, let_by, item, below, params, reducer_body, reducer, reducers, program}
 use Rattle.script_parser.proofs.Tests.{is_fixed}
 use Rattle.script_parser.proofs.Statements.{good_below, items_is, reducers_is}
-use Rattle.script_parser.proofs.Takes.{Takes, takes_as, takes_same, takes_bind, takes_first, takes_map, take_token, take_sign, take_word, behind, behind_sign, behind_word, takes_pure, many_nil, many_cons_at}
-use Rattle.script_parser.proofs.Follow.{stop, starts, Front, begun, no_semicolon, no_new, no_else, no_brace, expr_form, plain_form, starts_in_block}
-use Rattle.script_parser.proofs.Accept.{under, goods_under, takes_opened, Accepts, accept}
+use Rattle.script_parser.proofs.Takes.{Takes, takes_same, takes_bind, takes_first, takes_map, take_token, take_sign, take_word, behind, behind_sign, behind_word, takes_pure, many_nil, many_cons_at}
+use Rattle.script_parser.proofs.Follow.{starts, Front, begun, no_semicolon, no_new, no_else, no_brace, expr_form, plain_form, starts_in_block}
+use Rattle.script_parser.proofs.Accept.{under, goods_under, takes_opened, accept}
 
 -- no `else` comes next
 abbrev pub NoElse : Toks → Type 0
@@ -40,25 +38,25 @@ three e ys rest = append_assoc (spell_ex e) ys rest
 return_of : (e : Ex) (d : ℕ) (rest : Toks) → Binds 8 e → Takes (within_stmt (ReturnOf e) d) (stmt (below d)) (spell_stmt (ReturnOf e)) (ReturnOf e) rest
 return_of e d rest b = behind_word (within e d) kept.Return (look (λ c. return_by (below d) (sees Semicolon c))) (spell_ex e ++ Fixed Semicolon ∷ []) (ReturnOf e) rest
     (takes_same (within e d) (look (λ c. return_by (below d) (sees Semicolon c))) (expr (below d) >>= λ e. ended (ReturnOf e)) (spell_ex e ++ Fixed Semicolon ∷ []) (ReturnOf e) rest
-      (rw (three e (Fixed Semicolon ∷ []) rest, front_of (spell_ex e) (Fixed Semicolon ∷ rest) (sees Semicolon) (begun e 8 b) no_semicolon) refl) (expr_ended e ReturnOf d rest b))
+    (rw (three e (Fixed Semicolon ∷ []) rest, front_of (spell_ex e) (Fixed Semicolon ∷ rest) (sees Semicolon) (begun e 8 b) no_semicolon) refl) (expr_ended e ReturnOf d rest b))
 
 throw_of : (e : Ex) (d : ℕ) (rest : Toks) → Binds 8 e → Takes (within_stmt (Throw e) d) (stmt (below d)) (spell_stmt (Throw e)) (Throw e) rest
 throw_of e d rest b = behind_word (within e d) kept.Throw (look (λ c. throw_by (below d) (sees_word kept.New c))) (spell_ex e ++ Fixed Semicolon ∷ []) (Throw e) rest
     (takes_same (within e d) (look (λ c. throw_by (below d) (sees_word kept.New c))) (expr (below d) >>= λ e. ended (Throw e)) (spell_ex e ++ Fixed Semicolon ∷ []) (Throw e) rest
-      (rw (three e (Fixed Semicolon ∷ []) rest, front_of (spell_ex e) (Fixed Semicolon ∷ rest) (sees_word kept.New) (begun e 8 b) no_new) refl) (expr_ended e Throw d rest b))
+    (rw (three e (Fixed Semicolon ∷ []) rest, front_of (spell_ex e) (Fixed Semicolon ∷ rest) (sees_word kept.New) (begun e 8 b) no_new) refl) (expr_ended e Throw d rest b))
 
 error_end : (e : Ex) (rest : Toks) → (expect CloseRound >>= λ _. ended (ThrowError e)) (Fixed CloseRound ∷ Fixed Semicolon ∷ rest) ≡ Ok (ThrowError e, rest)
 error_end e rest = rw (take_sign CloseRound (Fixed Semicolon ∷ rest), take_sign Semicolon rest) refl
 
 throw_error : (e : Ex) (d : ℕ) (rest : Toks) → Binds 8 e → Takes (within_stmt (ThrowError e) d) (stmt (below d)) (spell_stmt (ThrowError e)) (ThrowError e) rest
 throw_error e d rest b =
-  let tail = spell_ex e ++ Fixed CloseRound ∷ Fixed Semicolon ∷ [] in
-  behind_word (λ n. opens d (n - 1 - 1) (within e)) kept.Throw (look (λ c. throw_by (below d) (sees_word kept.New c))) (Kept kept.New ∷ Kept kept.Error ∷ Fixed OpenRound ∷ tail) (ThrowError e) rest
+    let tail = spell_ex e ++ Fixed CloseRound ∷ Fixed Semicolon ∷ [] in
+    behind_word (λ n. opens d (n - 1 - 1) (within e)) kept.Throw (look (λ c. throw_by (below d) (sees_word kept.New c))) (Kept kept.New ∷ Kept kept.Error ∷ Fixed OpenRound ∷ tail) (ThrowError e) rest
     (behind_word (λ n. opens d (n - 1) (within e)) kept.New (keyword kept.Error >>= λ _. opened (below d) (fixed OpenRound) thrown_error) (Kept kept.Error ∷ Fixed OpenRound ∷ tail) (ThrowError e) rest
-      (behind_word (λ n. opens d n (within e)) kept.Error (opened (below d) (fixed OpenRound) thrown_error) (Fixed OpenRound ∷ tail) (ThrowError e) rest
-        (takes_opened (within e) (fixed OpenRound) thrown_error (Fixed OpenRound) tt tail (ThrowError e) rest d (is_fixed OpenRound)
-          (λ d. behind_sign (within e d) OpenRound (expr (below d) >>= λ e. expect CloseRound >>= λ _. ended (ThrowError e)) tail (ThrowError e) rest
-            (takes_first (within e d) (expr (below d)) (λ e. expect CloseRound >>= λ _. ended (ThrowError e)) (spell_ex e) (Fixed CloseRound ∷ Fixed Semicolon ∷ []) e (ThrowError e) rest ((accept e).whole d (Fixed CloseRound ∷ Fixed Semicolon ∷ rest) b (omega arith)) (error_end e rest))))))
+    (behind_word (λ n. opens d n (within e)) kept.Error (opened (below d) (fixed OpenRound) thrown_error) (Fixed OpenRound ∷ tail) (ThrowError e) rest
+    (takes_opened (within e) (fixed OpenRound) thrown_error (Fixed OpenRound) tt tail (ThrowError e) rest d (is_fixed OpenRound)
+    (λ d. behind_sign (within e d) OpenRound (expr (below d) >>= λ e. expect CloseRound >>= λ _. ended (ThrowError e)) tail (ThrowError e) rest
+    (takes_first (within e d) (expr (below d)) (λ e. expect CloseRound >>= λ _. ended (ThrowError e)) (spell_ex e) (Fixed CloseRound ∷ Fixed Semicolon ∷ []) e (ThrowError e) rest ((accept e).whole d (Fixed CloseRound ∷ Fixed Semicolon ∷ rest) b (omega arith)) (error_end e rest))))))
 
 delete_of : (e : Ex) (d : ℕ) (rest : Toks) → is_member e ≡ true → Binds 0 e → Takes (within_stmt (Delete e) d) (stmt (below d)) (spell_stmt (Delete e)) (Delete e) rest
 delete_of e d rest m b = behind_word (within e d) kept.Delete (post (below d) >>= λ e. deleted e) (spell_ex e ++ Fixed Semicolon ∷ []) (Delete e) rest
@@ -70,8 +68,8 @@ by_expr e d ys rest b h = go (begun e 8 b)
   where
     go : Front (spell_ex e) → stmt (below d) ((spell_ex e ++ ys) ++ rest) ≡ stmt_by (below d) ExprForm ((spell_ex e ++ ys) ++ rest)
     go f =
-      let brace : opens_brace f.0 ≡ false = subst (λ (w : Toks). begins_brace w ≡ false) f.2 h in
-      subst (λ (w : Toks). stmt (below d) ((w ++ ys) ++ rest) ≡ stmt_by (below d) ExprForm ((w ++ ys) ++ rest)) (sym f.2) (rw (expr_form f.0 f.3 brace) refl)
+        let brace : opens_brace f.0 ≡ false = subst (λ (w : Toks). begins_brace w ≡ false) f.2 h in
+        subst (λ (w : Toks). stmt (below d) ((w ++ ys) ++ rest) ≡ stmt_by (below d) ExprForm ((w ++ ys) ++ rest)) (sym f.2) (rw (expr_form f.0 f.3 brace) refl)
 
 no_assign : (e : Ex) → may_assign e (Some (Fixed Semicolon)) ≡ false
 no_assign e = go (is_target e)
@@ -83,15 +81,15 @@ no_assign e = go (is_target e)
 do_of : (e : Ex) (d : ℕ) (rest : Toks) → Binds 8 e → begins_brace (spell_ex e) ≡ false → Takes (within_stmt (Do e) d) (stmt (below d)) (spell_stmt (Do e)) (Do e) rest
 do_of e d rest b h = takes_same (within e d) (stmt (below d)) (stmt_by (below d) ExprForm) (spell_ex e ++ Fixed Semicolon ∷ []) (Do e) rest (by_expr e d (Fixed Semicolon ∷ []) rest b h)
     (takes_first (within e d) (expr (below d)) (λ e. look (λ c. assign_by (below d) e (may_assign e c))) (spell_ex e) (Fixed Semicolon ∷ []) e (Do e) rest ((accept e).whole d (Fixed Semicolon ∷ rest) b (omega arith))
-      (rw (no_assign e, take_sign Semicolon rest) refl))
+    (rw (no_assign e, take_sign Semicolon rest) refl))
 
 set_of : (t e : Ex) (d : ℕ) (rest : Toks) → is_target t ≡ true → begins_brace (spell_ex t) ≡ false → Binds 8 t → Binds 8 e → Takes (within_stmt (Set t e) d) (stmt (below d)) (spell_stmt (Set t e)) (Set t e) rest
 set_of t e d rest q h b k =
-  let tail = Fixed Assign ∷ (spell_ex e ++ Fixed Semicolon ∷ []) in
-  takes_same (within_stmt (Set t e) d) (stmt (below d)) (stmt_by (below d) ExprForm) (spell_ex t ++ tail) (Set t e) rest (by_expr t d tail rest b h)
+    let tail = Fixed Assign ∷ (spell_ex e ++ Fixed Semicolon ∷ []) in
+    takes_same (within_stmt (Set t e) d) (stmt (below d)) (stmt_by (below d) ExprForm) (spell_ex t ++ tail) (Set t e) rest (by_expr t d tail rest b h)
     (takes_bind (within t d) (λ n. within e d (n - 1)) (expr (below d)) (λ e. look (λ c. assign_by (below d) e (may_assign e c))) (spell_ex t) tail t (Set t e) rest ((accept t).whole d (tail ++ rest) b (omega arith))
-      (takes_same (λ n. within e d (n - 1)) (look (λ c. assign_by (below d) t (may_assign t c))) (assign_by (below d) t true) tail (Set t e) rest (rw q refl)
-        (behind_sign (within e d) Assign (expr (below d) >>= λ v. ended (Set t v)) (spell_ex e ++ Fixed Semicolon ∷ []) (Set t e) rest (expr_ended e (Set t) d rest k))))
+    (takes_same (λ n. within e d (n - 1)) (look (λ c. assign_by (below d) t (may_assign t c))) (assign_by (below d) t true) tail (Set t e) rest (rw q refl)
+    (behind_sign (within e d) Assign (expr (below d) >>= λ v. ended (Set t v)) (spell_ex e ++ Fixed Semicolon ∷ []) (Set t e) rest (expr_ended e (Set t) d rest k))))
 
 -- ---- blocks and conditionals
 block_of : (is : Items) (d : ℕ) (rest : Toks) → Takes (within_items is d) (items (under d)) (spell_items is) is (Fixed CloseBrace ∷ rest) → Takes (λ n. within_items is d (n - 1)) (block (under d)) (spell_stmt (Block is)) (Block is) rest
@@ -111,8 +109,8 @@ by_inner e d ys rest b h = go (begun e 8 b)
   where
     go : Front (spell_ex e) → inner (under d) ((spell_ex e ++ ys) ++ rest) ≡ stmt (below d) ((spell_ex e ++ ys) ++ rest)
     go f =
-      let brace : opens_brace f.0 ≡ false = subst (λ (w : Toks). begins_brace w ≡ false) f.2 h in
-      subst (λ (w : Toks). inner (under d) ((w ++ ys) ++ rest) ≡ stmt (below d) ((w ++ ys) ++ rest)) (sym f.2) (rw (no_brace f.0 f.3 brace) refl)
+        let brace : opens_brace f.0 ≡ false = subst (λ (w : Toks). begins_brace w ≡ false) f.2 h in
+        subst (λ (w : Toks). inner (under d) ((w ++ ys) ++ rest) ≡ stmt (below d) ((w ++ ys) ++ rest)) (sym f.2) (rw (no_brace f.0 f.3 brace) refl)
 
 -- a statement in a statement
 inside : (s : Stmt) (d : ℕ) (rest : Toks) → RightStmt s → ((d : ℕ) → Takes (within_stmt s d) (stmt (below d)) (spell_stmt s) s rest) → Takes (within_stmt s (inner_levels s d)) (inner (under d)) (spell_stmt s) s rest
@@ -140,10 +138,10 @@ head_of : (e : Ex) (d : ℕ) (c : ℕ → ℕ → Bool) (y : Toks) (w : Stmt) (r
     → Takes (λ n. opens d (n - 1) (λ f m. within e f m && c f (m - length (spell_ex e) - 1))) (stmt (below d)) (Kept kept.If ∷ Fixed OpenRound ∷ (spell_ex e ++ Fixed CloseRound ∷ y)) w rest
 head_of e d c y w rest b h = behind_word (λ n. opens d n (λ f m. within e f m && c f (m - length (spell_ex e) - 1))) kept.If (opened (below d) (fixed OpenRound) conditional) (Fixed OpenRound ∷ (spell_ex e ++ Fixed CloseRound ∷ y)) w rest
     (takes_opened (λ f m. within e f m && c f (m - length (spell_ex e) - 1)) (fixed OpenRound) conditional (Fixed OpenRound) tt (spell_ex e ++ Fixed CloseRound ∷ y) w rest d (is_fixed OpenRound)
-      (λ d. behind_sign (λ m. within e d m && c d (m - length (spell_ex e) - 1)) OpenRound (expr (below d) >>= λ e. expect CloseRound >>= λ _. inner (under d) >>= λ s. look (λ t. else_by (under d) e s (may_else s t))) (spell_ex e ++ Fixed CloseRound ∷ y) w rest
-        (takes_bind (within e d) (λ n. c d (n - 1)) (expr (below d)) (λ e. expect CloseRound >>= λ _. inner (under d) >>= λ s. look (λ t. else_by (under d) e s (may_else s t))) (spell_ex e) (Fixed CloseRound ∷ y) e w rest
-          ((accept e).whole d (Fixed CloseRound ∷ (y ++ rest)) b (omega arith))
-          (behind_sign (c d) CloseRound (inner (under d) >>= λ s. look (λ t. else_by (under d) e s (may_else s t))) y w rest (h d)))))
+    (λ d. behind_sign (λ m. within e d m && c d (m - length (spell_ex e) - 1)) OpenRound (expr (below d) >>= λ e. expect CloseRound >>= λ _. inner (under d) >>= λ s. look (λ t. else_by (under d) e s (may_else s t))) (spell_ex e ++ Fixed CloseRound ∷ y) w rest
+    (takes_bind (within e d) (λ n. c d (n - 1)) (expr (below d)) (λ e. expect CloseRound >>= λ _. inner (under d) >>= λ s. look (λ t. else_by (under d) e s (may_else s t))) (spell_ex e) (Fixed CloseRound ∷ y) e w rest
+    ((accept e).whole d (Fixed CloseRound ∷ (y ++ rest)) b (omega arith))
+    (behind_sign (c d) CloseRound (inner (under d) >>= λ s. look (λ t. else_by (under d) e s (may_else s t))) y w rest (h d)))))
 
 if_then : (e : Ex) (s : Stmt) (d : ℕ) (rest : Toks) → Binds 8 e → RightStmt s → NoElse rest → ((d : ℕ) → Takes (within_stmt s d) (stmt (below d)) (spell_stmt s) s rest) → Takes (within_stmt (IfThen e s) d) (stmt (below d)) (spell_stmt (IfThen e s)) (IfThen e s) rest
 if_then e s d rest b r n h = head_of e d (λ d. within_stmt s (inner_levels s d)) (spell_stmt s) (IfThen e s) rest b
@@ -153,21 +151,21 @@ if_else : (e : Ex) (s t : Stmt) (d : ℕ) (rest : Toks) → Binds 8 e → is_ope
     → Takes (within_stmt (IfElse e s t) d) (stmt (below d)) (spell_stmt (IfElse e s t)) (IfElse e s t) rest
 if_else e s t d rest b o r q h k = head_of e d (λ d n. within_stmt s (inner_levels s d) n && within_stmt t (inner_levels t d) (n - length (spell_stmt s) - 1)) (spell_stmt s ++ Kept kept.Else ∷ spell_stmt t) (IfElse e s t) rest b
     (λ d. takes_bind (within_stmt s (inner_levels s d)) (λ n. within_stmt t (inner_levels t d) (n - 1)) (inner (under d)) (λ s. look (λ t. else_by (under d) e s (may_else s t))) (spell_stmt s) (Kept kept.Else ∷ spell_stmt t) s (IfElse e s t) rest
-      (inside s d (Kept kept.Else ∷ (spell_stmt t ++ rest)) r h)
-      (takes_same (λ n. within_stmt t (inner_levels t d) (n - 1)) (look (λ c. else_by (under d) e s (may_else s c))) (else_by (under d) e s true) (Kept kept.Else ∷ spell_stmt t) (IfElse e s t) rest (rw o refl)
-        (behind_word (within_stmt t (inner_levels t d)) kept.Else (inner (under d) >>= λ t. pure (IfElse e s t)) (spell_stmt t) (IfElse e s t) rest
-          (takes_map (within_stmt t (inner_levels t d)) (inner (under d)) (λ t. pure (IfElse e s t)) (spell_stmt t) t (IfElse e s t) rest (inside t d rest q k) refl))))
+    (inside s d (Kept kept.Else ∷ (spell_stmt t ++ rest)) r h)
+    (takes_same (λ n. within_stmt t (inner_levels t d) (n - 1)) (look (λ c. else_by (under d) e s (may_else s c))) (else_by (under d) e s true) (Kept kept.Else ∷ spell_stmt t) (IfElse e s t) rest (rw o refl)
+    (behind_word (within_stmt t (inner_levels t d)) kept.Else (inner (under d) >>= λ t. pure (IfElse e s t)) (spell_stmt t) (IfElse e s t) rest
+    (takes_map (within_stmt t (inner_levels t d)) (inner (under d)) (λ t. pure (IfElse e s t)) (spell_stmt t) t (IfElse e s t) rest (inside t d rest q k) refl))))
 
 -- ---- items
 const_of : (at : ℕ) (bytes : List ℕ) (e : Ex) (d : ℕ) (rest : Toks) → Binds 8 e → Takes (within_item (Const at bytes e) d) (item (below d)) (spell_item (Const at bytes e)) (Const at bytes e) rest
 const_of at bytes e d rest b = behind_word (λ n. within e d (n - 1 - 1)) kept.Const (take name_of >>= λ n. expect Assign >>= λ _. expr (below d) >>= λ e. ended (Const n.0 n.1 e)) (Name at bytes ∷ Fixed Assign ∷ (spell_ex e ++ Fixed Semicolon ∷ [])) (Const at bytes e) rest
     (behind (λ n. within e d (n - 1)) name_of (Name at bytes) (at, bytes) (λ n. expect Assign >>= λ _. expr (below d) >>= λ e. ended (Const n.0 n.1 e)) (Fixed Assign ∷ (spell_ex e ++ Fixed Semicolon ∷ [])) (Const at bytes e) rest refl
-      (behind_sign (within e d) Assign (expr (below d) >>= λ e. ended (Const at bytes e)) (spell_ex e ++ Fixed Semicolon ∷ []) (Const at bytes e) rest (expr_ended e (Const at bytes) d rest b)))
+    (behind_sign (within e d) Assign (expr (below d) >>= λ e. ended (Const at bytes e)) (spell_ex e ++ Fixed Semicolon ∷ []) (Const at bytes e) rest (expr_ended e (Const at bytes) d rest b)))
 
 let_be : (at : ℕ) (bytes : List ℕ) (e : Ex) (d : ℕ) (rest : Toks) → Binds 8 e → Takes (within_item (LetBe at bytes e) d) (item (below d)) (spell_item (LetBe at bytes e)) (LetBe at bytes e) rest
 let_be at bytes e d rest b = behind_word (λ n. within e d (n - 1 - 1)) kept.Let (take name_of >>= λ n. look (λ c. let_by (below d) n (sees Assign c))) (Name at bytes ∷ Fixed Assign ∷ (spell_ex e ++ Fixed Semicolon ∷ [])) (LetBe at bytes e) rest
     (behind (λ n. within e d (n - 1)) name_of (Name at bytes) (at, bytes) (λ n. look (λ c. let_by (below d) n (sees Assign c))) (Fixed Assign ∷ (spell_ex e ++ Fixed Semicolon ∷ [])) (LetBe at bytes e) rest refl
-      (behind_sign (within e d) Assign (expr (below d) >>= λ e. ended (LetBe at bytes e)) (spell_ex e ++ Fixed Semicolon ∷ []) (LetBe at bytes e) rest (expr_ended e (LetBe at bytes) d rest b)))
+    (behind_sign (within e d) Assign (expr (below d) >>= λ e. ended (LetBe at bytes e)) (spell_ex e ++ Fixed Semicolon ∷ []) (LetBe at bytes e) rest (expr_ended e (LetBe at bytes) d rest b)))
 
 let_is : (at : ℕ) (bytes : List ℕ) (d : ℕ) (rest : Toks) → item (below d) (spell_item (Let at bytes) ++ rest) ≡ Ok (Let at bytes, rest)
 let_is at bytes d rest = rw (take_word kept.Let (Name at bytes ∷ Fixed Semicolon ∷ rest), take_token name_of (Name at bytes) (at, bytes) (Fixed Semicolon ∷ rest) refl, take_sign Semicolon rest) refl
@@ -273,22 +271,22 @@ params_is (Two at bytes at' bytes') rest = two_is at bytes at' bytes' rest
 body_of : (at : ℕ) (bytes : List ℕ) (ps : Params) (is : Items) (d : ℕ) (rest : Toks) → RightItems is
     → Takes (λ n. within_items is d (n - 1 - length (spell_params ps) - 1 - 1)) (reducer_body (at, bytes) (under d)) (Fixed OpenRound ∷ (spell_params ps ++ Fixed CloseRound ∷ Fixed OpenBrace ∷ (spell_items is ++ Fixed CloseBrace ∷ []))) (Function at bytes ps is) rest
 body_of at bytes ps is d rest r =
-  let make = Function at bytes ps in
-  let tail = spell_items is ++ Fixed CloseBrace ∷ [] in
-  behind_sign (λ n. within_items is d (n - length (spell_params ps) - 1 - 1)) OpenRound (params >>= λ ps. expect CloseRound >>= λ _. expect OpenBrace >>= λ _. items (under d) >>= λ is. expect CloseBrace >>= λ _. pure (Function at bytes ps is)) (spell_params ps ++ Fixed CloseRound ∷ Fixed OpenBrace ∷ tail) (make is) rest
+    let make = Function at bytes ps in
+    let tail = spell_items is ++ Fixed CloseBrace ∷ [] in
+    behind_sign (λ n. within_items is d (n - length (spell_params ps) - 1 - 1)) OpenRound (params >>= λ ps. expect CloseRound >>= λ _. expect OpenBrace >>= λ _. items (under d) >>= λ is. expect CloseBrace >>= λ _. pure (Function at bytes ps is)) (spell_params ps ++ Fixed CloseRound ∷ Fixed OpenBrace ∷ tail) (make is) rest
     (takes_bind (λ n. true) (λ n. within_items is d (n - 1 - 1)) params (λ ps. expect CloseRound >>= λ _. expect OpenBrace >>= λ _. items (under d) >>= λ is. expect CloseBrace >>= λ _. pure (Function at bytes ps is)) (spell_params ps) (Fixed CloseRound ∷ Fixed OpenBrace ∷ tail) ps (make is) rest
-      (takes_pure (λ n. true) params (spell_params ps) ps (Fixed CloseRound ∷ Fixed OpenBrace ∷ (tail ++ rest)) (params_is ps (Fixed OpenBrace ∷ (tail ++ rest))) (λ n. refl))
-      (behind_sign (λ n. within_items is d (n - 1)) CloseRound (expect OpenBrace >>= λ _. items (under d) >>= λ is. expect CloseBrace >>= λ _. pure (make is)) (Fixed OpenBrace ∷ tail) (make is) rest
-        (behind_sign (within_items is d) OpenBrace (items (under d) >>= λ is. expect CloseBrace >>= λ _. pure (make is)) tail (make is) rest
-          (takes_first (within_items is d) (items (under d)) (λ is. expect CloseBrace >>= λ _. pure (make is)) (spell_items is) (Fixed CloseBrace ∷ []) is (make is) rest (accept_items is d rest r) (rw (take_sign CloseBrace rest) refl)))))
+    (takes_pure (λ n. true) params (spell_params ps) ps (Fixed CloseRound ∷ Fixed OpenBrace ∷ (tail ++ rest)) (params_is ps (Fixed OpenBrace ∷ (tail ++ rest))) (λ n. refl))
+    (behind_sign (λ n. within_items is d (n - 1)) CloseRound (expect OpenBrace >>= λ _. items (under d) >>= λ is. expect CloseBrace >>= λ _. pure (make is)) (Fixed OpenBrace ∷ tail) (make is) rest
+    (behind_sign (within_items is d) OpenBrace (items (under d) >>= λ is. expect CloseBrace >>= λ _. pure (make is)) tail (make is) rest
+    (takes_first (within_items is d) (items (under d)) (λ is. expect CloseBrace >>= λ _. pure (make is)) (spell_items is) (Fixed CloseBrace ∷ []) is (make is) rest (accept_items is d rest r) (rw (take_sign CloseBrace rest) refl)))))
 
 accept_reducer : (r : Reducer) (d : ℕ) (rest : Toks) → RightReducer r → Takes (within_reducer r d) (reducer (below d)) (spell_reducer r) r rest
 accept_reducer (Function at bytes ps is) d rest r =
-  let tail = spell_params ps ++ Fixed CloseRound ∷ Fixed OpenBrace ∷ (spell_items is ++ Fixed CloseBrace ∷ []) in
-  behind_word (λ n. opens d (n - 1) (λ c m. within_items is c (m - length (spell_params ps) - 1 - 1))) kept.Function (take name_of >>= λ n. opened (below d) (fixed OpenRound) (reducer_body n)) (Name at bytes ∷ Fixed OpenRound ∷ tail) (Function at bytes ps is) rest
+    let tail = spell_params ps ++ Fixed CloseRound ∷ Fixed OpenBrace ∷ (spell_items is ++ Fixed CloseBrace ∷ []) in
+    behind_word (λ n. opens d (n - 1) (λ c m. within_items is c (m - length (spell_params ps) - 1 - 1))) kept.Function (take name_of >>= λ n. opened (below d) (fixed OpenRound) (reducer_body n)) (Name at bytes ∷ Fixed OpenRound ∷ tail) (Function at bytes ps is) rest
     (behind (λ n. opens d n (λ c m. within_items is c (m - length (spell_params ps) - 1 - 1))) name_of (Name at bytes) (at, bytes) (λ n. opened (below d) (fixed OpenRound) (reducer_body n)) (Fixed OpenRound ∷ tail) (Function at bytes ps is) rest refl
-      (takes_opened (λ c m. within_items is c (m - length (spell_params ps) - 1 - 1)) (fixed OpenRound) (reducer_body (at, bytes)) (Fixed OpenRound) tt tail (Function at bytes ps is) rest d (is_fixed OpenRound)
-        (λ d. body_of at bytes ps is d rest r)))
+    (takes_opened (λ c m. within_items is c (m - length (spell_params ps) - 1 - 1)) (fixed OpenRound) (reducer_body (at, bytes)) (Fixed OpenRound) tt tail (Function at bytes ps is) rest d (is_fixed OpenRound)
+    (λ d. body_of at bytes ps is d rest r)))
 
 reducer_front : (r : Reducer) → (t : Tok) × (x : Toks) × (spell_reducer r ≡ t ∷ x)
 reducer_front (Function at bytes ps is) = (_, _, refl)

@@ -1,16 +1,16 @@
 -- The parser is exact in both directions.
-use Rattle.std.proofs.Common.{◌≡◌, ℕ, zero, suc, ◌+◌, ◌-◌, ◌<◌, ◌≤◌, Bool, true, false, List, [], ◌∷◌, ◌++◌, length, Result, Ok, Err, refl, sym, ap, subst, ◌∙◌, append_assoc, append-nil, arith, ◌⊎◌, inl, inr, length-append}
+use Rattle.std.proofs.Common.{◌≡◌, ℕ, suc, ◌+◌, false, [], ◌∷◌, ◌++◌, length, Ok, Err, refl, sym, ap, subst, ◌∙◌, append_assoc, append-nil, arith, inl, inr, length-append}
 use Rattle.script_grammar.specs.Tokens.{Tok, Toks}
 use Rattle.script_grammar.specs.Trees.{Program}
 use Rattle.script_grammar.specs.Spelling.{spell_program}
 use Rattle.script_grammar.specs.Rules.{Right, within_program}
-use Rattle.script_grammar.specs.Programs.{IsProgram, Begins, BeginsWithin, Stops, IsUnexpected, IsTooNested}
+use Rattle.script_grammar.specs.Programs.{IsProgram, Begins, BeginsWithin, Stops, IsTooNested}
 use Rattle.script_parser.specs.Steps.{Why, Unexpected, TooNested, Outcome, and_then, ◌>>=◌, pure, finish}
 use Rattle.script_parser.specs.Parser.{below, reducers, program}
 use Rattle.script_parser.specs.Exact.{Exact}
-use Rattle.script_parser.proofs.Good.{Good, Judge, Alike, Shown}
+use Rattle.script_parser.proofs.Good.{Judge, Alike, Shown}
 use Rattle.script_parser.proofs.Statements.{ProgramAt, good_program}
-use Rattle.script_parser.proofs.Takes.{Takes, Reads, Exceeds}
+use Rattle.script_parser.proofs.Takes.{Takes}
 use Rattle.script_parser.proofs.AcceptStatements.{accept_program}
 
 ok_same : (p q : Program × Toks) (a b : Outcome Program) → a ≡ Ok p → b ≡ Ok q → a ≡ b → p ≡ q
@@ -37,13 +37,13 @@ told d ts p rest (Ok q) j e n = go (ok_same q (p, rest) (Ok q) (Ok q) refl e ref
   where
     go : q ≡ (p, rest) → IsProgram d ts p
     go same =
-      let tree : q.0 ≡ p = ap (λ (w : Program × Toks). w.0) same in
-      let left : q.1 ≡ [] = ap (λ (w : Program × Toks). w.1) same ∙ n in
-      subst (λ (p : Program). IsProgram d ts p) tree (record {
-        spelled = j.2 ∙ rw (left, append-nil) (j.1 0).0;
-        right = (j.1 0).1;
-        levels = λ n. (j.1 n).2
-      })
+        let tree : q.0 ≡ p = ap (λ (w : Program × Toks). w.0) same in
+        let left : q.1 ≡ [] = ap (λ (w : Program × Toks). w.1) same ∙ n in
+        subst (λ (p : Program). IsProgram d ts p) tree (record {
+          spelled = j.2 ∙ rw (left, append-nil) (j.1 0).0;
+          right = (j.1 0).1;
+          levels = λ n. (j.1 n).2;
+        })
 told d ts p rest (Err x) j e n = absurd cc
 
 -- the faults, as they are judged
@@ -86,10 +86,10 @@ opened d ts left p k e s r size = go (accept_program p d r)
     go : Takes (within_program p d) (program d) (spell_program p) p [] → within_program p d (suc k) ≡ false
     go (inl h) = let a = h.0 in let b = here in absurd cc
     go (inr h) =
-      let same : h.1 ≡ left = ap (λ (w : Why × Toks). w.1) (err_same (TooNested, h.1) (TooNested, left) (program d (spell_program p ++ [])) (program d (spell_program p ++ [])) h.2 here refl) in
-      let long : length (spell_program p ++ []) ≡ length ts = ap (λ (w : Toks). length w) (append-nil (spell_program p) ∙ sym s) in
-      let place : h.0 ≡ k = omega (arith, h.3, long, size, ap (λ (w : Toks). length w) same) in
-      subst (λ (k : ℕ). within_program p d (suc k) ≡ false) place h.4
+        let same : h.1 ≡ left = ap (λ (w : Why × Toks). w.1) (err_same (TooNested, h.1) (TooNested, left) (program d (spell_program p ++ [])) (program d (spell_program p ++ [])) h.2 here refl) in
+        let long : length (spell_program p ++ []) ≡ length ts = ap (λ (w : Toks). length w) (append-nil (spell_program p) ∙ sym s) in
+        let place : h.0 ≡ k = omega (arith, h.3, long, size, ap (λ (w : Toks). length w) same) in
+        subst (λ (k : ℕ). within_program p d (suc k) ≡ false) place h.4
 
 no_front : (y r : Toks) → r ≡ y ++ r → length y ≡ 0
 no_front y r e = omega (arith, ap (λ (w : Toks). length w) e, length-append y r)
@@ -100,9 +100,9 @@ opens d x t left e more p s r = ends (subst (λ (out : Outcome Program). Alike (
     ends : Alike (t ∷ left) (t ∷ more) (Err (TooNested, t ∷ left)) (program d (x ++ t ∷ more)) → within_program p d (suc (length x)) ≡ false
     ends (inl l) = absurd (omega (arith, l))
     ends (inr k) =
-      let none = no_front k.0 (t ∷ left) k.1 in
-      let size : length x + length (k.0 ++ t ∷ more) ≡ length (x ++ t ∷ more) = omega (arith, none, length-append k.0 (t ∷ more), length-append x (t ∷ more)) in
-      opened d (x ++ t ∷ more) (k.0 ++ t ∷ more) p (length x) k.2 s r size
+        let none = no_front k.0 (t ∷ left) k.1 in
+        let size : length x + length (k.0 ++ t ∷ more) ≡ length (x ++ t ∷ more) = omega (arith, none, length-append k.0 (t ∷ more), length-append x (t ∷ more)) in
+        opened d (x ++ t ∷ more) (k.0 ++ t ∷ more) p (length x) k.2 s r size
 
 nested : (d : ℕ) (ts rest x more : Toks) (p : Program) → ts ≡ x ++ rest → program d ts ≡ Err (TooNested, rest) → BeginsWithin d x → x ++ more ≡ spell_program p → Right p → Shown TooNested rest more → IsTooNested d ts rest
 nested d ts [] x more p s e b q r h = absurd h
@@ -114,7 +114,7 @@ nested d ts (t ∷ left) x more p s e b q r h = record {
   head = refl;
   begins = b;
   goes_on = (h.0, p, append_assoc x (t ∷ []) h.0 ∙ rw (← h.1) q, r);
-  opens = opens d x t left (rw s at e)
+  opens = opens d x t left (rw s at e);
 }
 
 pub exact : (d : ℕ) (ts : Toks) → Exact d ts
@@ -122,7 +122,7 @@ exact d ts = record {
   read = λ p rest e. told d ts p rest (program d ts) ((good_program d).judge ts) e (all_read d ts p rest e);
   only = only;
   unexpected = λ rest e. let j = judged d ts (Unexpected, rest) (program d ts) ((good_program d).judge ts) e in record { front = j.0; splits = j.3; begins = within d ts (Unexpected, rest) j; stops = stops d j.0 rest (rw j.3 at e) };
-  nested = λ rest e. let j = judged d ts (TooNested, rest) (program d ts) ((good_program d).judge ts) e in nested d ts rest j.0 j.1 j.2 j.3 e (within d ts (TooNested, rest) j) j.4.0 j.4.1 j.5
+  nested = λ rest e. let j = judged d ts (TooNested, rest) (program d ts) ((good_program d).judge ts) e in nested d ts rest j.0 j.1 j.2 j.3 e (within d ts (TooNested, rest) j) j.4.0 j.4.1 j.5;
 }
   where
     only : (p : Program) → IsProgram d ts p → program d ts ≡ Ok (p, [])

@@ -1,16 +1,15 @@
 -- Each rule for expressions is good for the language of its spelling.
-use Rattle.std.proofs.Common.{◌≡◌, ℕ, zero, suc, ◌+◌, ◌-◌, ◌<◌, ◌≤◌, Bool, true, false, List, [], ◌∷◌, ◌++◌, length, Option, Some, None, refl, sym, ap, subst, ◌∙◌, append_assoc, append-nil, arith, length-append}
-use Rattle.std.specs.Prelude.{◌&&◌}
+use Rattle.std.proofs.Common.{◌≡◌, ℕ, zero, suc, ◌-◌, ◌<◌, ◌≤◌, Bool, true, false, List, [], ◌∷◌, ◌++◌, length, Option, Some, refl, sym, ap, ◌∙◌, append-nil, arith, length-append}
 use Rattle.script_text.specs.declared.sign.Sign.{Sign}
-use Rattle.script_text.specs.declared.sign.Sign.TheVariants.{OpenRound, CloseRound, OpenBrace, CloseBrace, OpenSquare, CloseSquare, Comma, Colon, Dot as Point, Question, Star, Plus, Less, Same, And, Or}
-use Rattle.script_grammar.specs.Tokens.{Tok, Name, Text, Fixed, Toks}
-use Rattle.script_grammar.specs.Trees.{Lit, Number, Word, Named, Ex, Literal, Var, Round, ListOf, Object, Member, Unary, Chain, Choice, Elems, NoElems, LastElem, ThenElem, Prop, Keyed, Quoted, Short, Props, NoProps, LastProp, ThenProp, Suffix, Dot, Index, Suffixes, NoSuffixes, ThenSuffix, Links, NoLinks, ThenLink}
-use Rattle.script_grammar.specs.Spelling.{spell_lit, spell_word, spell_ex, spell_elems, spell_prop, spell_props, spell_suffix, spell_suffixes, spell_links}
-use Rattle.script_grammar.specs.Rules.{level_of, is_unary, is_atom, Binds, BindsElems, BindsProp, BindsProps, BindsSuffix, BindsSuffixes, BindsLinks, within, within_elems, within_prop, within_props, within_suffix, within_suffixes, within_links}
-use Rattle.script_parser.specs.Steps.{Why, Unexpected, TooNested, Parser, ◌>>=◌, pure, fail, take, too_deep, first, look, many, many_by}
+use Rattle.script_text.specs.declared.sign.Sign.TheVariants.{OpenRound, CloseRound, OpenBrace, CloseBrace, OpenSquare, CloseSquare, Colon, Dot as Point, Question, Star, Plus, Less, Same, And, Or}
+use Rattle.script_grammar.specs.Tokens.{Tok, Name, Fixed, Toks}
+use Rattle.script_grammar.specs.Trees.{Word, Named, Ex, Literal, Var, Round, ListOf, Object, Member, Unary, Chain, Choice, Elems, NoElems, LastElem, ThenElem, Prop, Keyed, Quoted, Short, Props, NoProps, LastProp, ThenProp, Suffix, Dot, Index, Suffixes, NoSuffixes, ThenSuffix, Links, NoLinks, ThenLink}
+use Rattle.script_grammar.specs.Spelling.{spell_word, spell_ex, spell_elems, spell_prop, spell_props, spell_suffix, spell_suffixes, spell_links}
+use Rattle.script_grammar.specs.Rules.{level_of, is_atom, Binds, BindsElems, BindsProp, BindsProps, BindsSuffix, BindsSuffixes, BindsLinks, within, within_elems, within_prop, within_props, within_suffix, within_suffixes, within_links}
+use Rattle.script_parser.specs.Steps.{Parser, take, look, many_by}
 use Rattle.script_parser.specs.Tests.{fixed, name_of, text_of, word_of, lit_of, unary_of, link_of, sees, sees_unary, AtomForm, RoundForm, ListForm, ObjectForm, VarForm, OtherForm, atom_form, PropForm, NameForm, QuotedForm, WordForm, prop_form, begins_suffix, begins_link}
-use Rattle.script_parser.specs.Parser.{Below, expect, opened, named, literal, rounded, elems, separated_by, listed, valued, short_by, prop_by, prop, props, objected, atom_by, atom, index, dot, suffix_by, suffix, suffixes, member, post, signed, unary_by, unary, then_link, chained, link, links, chain, choice, choice_by, expr}
-use Rattle.script_parser.proofs.Good.{Lang, Example, Good, Seq, Nothing, Consumes, Behind, good_pure, good_look, good_sub, good_bind}
+use Rattle.script_parser.specs.Parser.{Below, expect, named, literal, rounded, elems, separated_by, listed, valued, short_by, prop_by, prop, props, objected, atom_by, atom, index, dot, suffix_by, suffix, suffixes, member, post, signed, unary_by, unary, then_link, chained, link, links, chain, choice, choice_by, expr}
+use Rattle.script_parser.proofs.Good.{Lang, Example, Good, Seq, Nothing, Consumes, good_pure, good_look, good_sub, good_bind}
 use Rattle.script_parser.proofs.Lists.{good_many, good_separated, many_is, separated_is}
 use Rattle.script_parser.proofs.Languages.{Just, NameAt, TextAt, WordAt, LitAt, SignAt, LinkSign, good_sign, good_name, good_text, good_key, good_lit, good_unary_sign, good_link_sign, Of, both_fit, ExAt, Goods, GoodBelow, good_opened, deep_sign}
 use Rattle.script_parser.proofs.Tests.{of_unary}
@@ -281,7 +280,7 @@ good_choice c d b g = good_sub _ (ChoiceAt c (suc d)) _ spelled
   where
     spelled : (n : ℕ) (p : Ex) (ts : Toks) → Seq (Just Question) (λ _. Seq (ExAt 8 d) (λ x. Seq (Just Colon) (λ _. Seq (ExAt 8 d) (λ y. Nothing (Choice c x y))))) n p ts → ChoiceAt c (suc d) n p ts
     spelled n p ts h = let i = h.4 in let j = i.4 in let k = j.4 in let f = rw h.3 at i.3.2 in let u = rw (h.3, i.3.0, j.3) at k.3.2 in
-      rw (h.5, h.3, i.5, i.3.0, j.5, j.3, k.5, k.3.0, k.4.1, k.4.0, append-nil) (refl, λ b. (omega arith, b, i.3.1, k.3.1), λ m e t. both_fit _ _ t (rw e (both_fit _ _ f u)))
+        rw (h.5, h.3, i.5, i.3.0, j.5, j.3, k.5, k.3.0, k.4.1, k.4.0, append-nil) (refl, λ b. (omega arith, b, i.3.1, k.3.1), λ m e t. both_fit _ _ t (rw e (both_fit _ _ f u)))
 
 by_choice : (c : Ex) (d : ℕ) (i : Option Below) → GoodBelow d i → (b : Bool) → Good (ChoiceAt c d) (choice_by i c b)
 unfolding ChoiceAt

@@ -1,16 +1,15 @@
 -- What may stand behind an expression of a level, and what begins an expression.
-use Rattle.std.proofs.Common.{◌≡◌, ℕ, zero, suc, ◌+◌, ◌-◌, ◌<◌, ◌≤◌, Bool, true, false, List, [], ◌∷◌, ◌++◌, length, Option, Some, None, refl, sym, ap, subst, ◌∙◌, arith}
+use Rattle.std.proofs.Common.{◌≡◌, ℕ, suc, ◌<◌, Bool, true, false, [], ◌∷◌, ◌++◌, Option, Some, None, refl, arith}
 use Rattle.std.specs.Prelude.{if◌then◌else◌, ◌==◌}
 use Rattle.std.proofs.lemmas.Bool.{eqb-true}
 use Rattle.script_text.specs.declared.sign.Sign.{Sign}
 use Rattle.script_text.specs.declared.sign.Sign.TheVariants.{Same, NotSame, AtMost, AtLeast, And, Or, OpenRound, CloseRound, OpenBrace, CloseBrace, OpenSquare, CloseSquare, Comma, Semicolon, Colon, Question, Assign, Less, Greater, Plus, Minus, Star, Percent, Not, Dot as Point}
-use Rattle.script_text.specs.declared.word.Reserved.{Reserved}
 use Rattle.script_text.specs.declared.word.Reserved.TheVariants as kept
 use Rattle.script_grammar.specs.Tokens.{Tok, Name, Kept, Integer, Text, Fixed, Other, Toks}
 use Rattle.script_grammar.specs.Trees.{Lit, Number, Quote, True, False, Null, Undefined, Ex, Literal, Var, Round, ListOf, Object, Member, Unary, Chain, Choice}
 use Rattle.script_grammar.specs.Spelling.{spell_lit, spell_ex, spell_suffix, spell_suffixes, spell_links}
 use Rattle.script_grammar.specs.Rules.{level_of, is_unary, Binds, opens_brace}
-use Rattle.script_parser.specs.Tests.{is_some, sees, sees_word, sees_unary, unary_of, link_of, begins_suffix, begins_link, in_block, StmtForm, ExprForm, stmt_form, ItemForm, PlainForm, item_form}
+use Rattle.script_parser.specs.Tests.{is_some, sees, sees_word, begins_suffix, begins_link, in_block, ExprForm, stmt_form, PlainForm, item_form}
 
 -- the first level of which a token goes on with an expression; 8 where it goes on with none
 abbrev pub stop : Option Tok → ℕ
@@ -79,9 +78,9 @@ no_link k (Fixed s) l h = go (level_of s == k) refl
     go : (b : Bool) → (level_of s == k) ≡ b → is_some (if b then Some s else None) ≡ false
     go false e = refl
     go true e =
-      let same : level_of s ≡ k = eqb-true (level_of s) k e in
-      let here : stop (Some (Fixed s)) ≡ suc (level_of s) = stop_link s (omega (arith, same, l)) in
-      absurd (omega (arith, here, same, h))
+        let same : level_of s ≡ k = eqb-true (level_of s) k e in
+        let here : stop (Some (Fixed s)) ≡ suc (level_of s) = stop_link s (omega (arith, same, l)) in
+        absurd (omega (arith, here, same, h))
 
 pub no_question : (c : Option Tok) → 7 < stop c → sees Question c ≡ false
 no_question None h = refl

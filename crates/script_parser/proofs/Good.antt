@@ -1,8 +1,7 @@
 -- What holds of each step of the parser, and is kept where steps are put together.
-use Rattle.std.proofs.Common.{◌≡◌, ℕ, zero, suc, ◌+◌, ◌-◌, ◌<◌, ◌≤◌, Bool, true, false, List, [], ◌∷◌, ◌++◌, length, Option, Some, None, Result, Ok, Err, refl, sym, ap, subst, ◌∙◌, append_assoc, append-nil, arith, ◌⊎◌, inl, inr, length-append}
-use Rattle.std.specs.Prelude.{if◌then◌else◌}
-use Rattle.script_grammar.specs.Tokens.{Tok, Name, Toks}
-use Rattle.script_parser.specs.Steps.{Why, Unexpected, TooNested, Outcome, Parser, and_then, ◌>>=◌, pure, fail, taken, take, refused, too_deep, first, look, again_from, again, many_by, many, finish}
+use Rattle.std.proofs.Common.{◌≡◌, ℕ, zero, suc, ◌+◌, ◌-◌, ◌<◌, ◌≤◌, [], ◌∷◌, ◌++◌, length, Option, Some, None, Ok, Err, refl, sym, ap, subst, ◌∙◌, append_assoc, arith, ◌⊎◌, inl, inr, length-append}
+use Rattle.script_grammar.specs.Tokens.{Tok, Toks}
+use Rattle.script_parser.specs.Steps.{Why, Unexpected, TooNested, Outcome, Parser, and_then, ◌>>=◌, pure, fail, taken, take, refused, too_deep, first, look, again_from, again, finish}
 
 -- Which tokens are read as which value, where the first n of them open no level too many.
 abbrev pub Lang : Type 0 → Type 1
@@ -55,21 +54,21 @@ pub good_pure : {A : Type 0} (a : A) → Good (Nothing a) (pure a)
 good_pure a = record {
   some = (a, [], (refl, refl));
   judge = λ ts. ([], (λ n. (refl, refl)), refl);
-  alike = λ z t r o. inr (z, refl, refl)
+  alike = λ z t r o. inr (z, refl, refl);
 }
 
 pub good_fail : {A : Type 0} (L : Lang A) → Example L → Good L fail
 good_fail L s = record {
   some = s;
   judge = λ ts. ([], s.1, s.0, refl, s.2, tt);
-  alike = λ z t r o. inr (z, refl, refl)
+  alike = λ z t r o. inr (z, refl, refl);
 }
 
 pub good_look : {A : Type 0} (L : Lang A) (f : Option Tok → Parser A) → ((c : Option Tok) → Good L (f c)) → Good L (look f)
 good_look L f g = record {
   some = (g None).some;
   judge = λ ts. (g (first ts)).judge ts;
-  alike = both
+  alike = both;
 }
   where
     both : (z : Toks) (t : Tok) (r o : Toks) → Alike (t ∷ r) (t ∷ o) (look f (z ++ t ∷ r)) (look f (z ++ t ∷ o))
@@ -80,7 +79,7 @@ pub good_sub : {A : Type 0} (L M : Lang A) (p : Parser A) → ((n : ℕ) (a : A)
 good_sub {A = A} L M p h g = record {
   some = (g.some.0, g.some.1, h 0 _ _ g.some.2);
   judge = λ ts. judged ts (p ts) (g.judge ts);
-  alike = g.alike
+  alike = g.alike;
 }
   where
     judged : (ts : Toks) (out : Outcome A) → Judge L ts out → Judge M ts out
@@ -101,7 +100,7 @@ pub good_bind : {A B : Type 0} (L : Lang A) (M : A → Lang B) (p : Parser A) (f
 good_bind {A = A} {B = B} L M p f g h = record {
   some = let s = g.some in let u = (h s.0).some in let e : 0 - length s.1 ≡ 0 = omega arith in (u.0, s.1 ++ u.1, (s.0, s.1, u.1, s.2, subst (λ (n : ℕ). M s.0 n u.0 u.1) (sym e) u.2, refl));
   judge = λ ts. judged ts (p ts) (g.judge ts);
-  alike = λ z t r o. both (t ∷ r) (t ∷ o) (z ++ t ∷ r) (p (z ++ t ∷ r)) (p (z ++ t ∷ o)) t r o refl refl (g.alike z t r o)
+  alike = λ z t r o. both (t ∷ r) (t ∷ o) (z ++ t ∷ r) (p (z ++ t ∷ r)) (p (z ++ t ∷ o)) t r o refl refl (g.alike z t r o);
 }
   where
     second : (ts : Toks) (a : A) (x rest : Toks) → ((n : ℕ) → L n a x) → ts ≡ x ++ rest → (out : Outcome B) → Judge (M a) rest out → Judge (Seq L M) ts out
@@ -197,9 +196,9 @@ behind_item {A = A} {B = B} I item go good some within p q ts e = after (item ts
   where
     after : (out : Outcome A) → Judge I ts out → and_then out (go p) ≡ and_then out (go q)
     after (Ok r) j =
-      let size : length ts ≡ length j.0 + length r.1 = ap (λ (w : Toks). length w) j.2 ∙ length-append j.0 r.1 in
-      let more = some 0 r.0 j.0 (j.1 0) in
-      within r.0 p q r.1 (λ rest l. e rest (omega (arith, size, more, l)))
+        let size : length ts ≡ length j.0 + length r.1 = ap (λ (w : Toks). length w) j.2 ∙ length-append j.0 r.1 in
+        let more = some 0 r.0 j.0 (j.1 0) in
+        within r.0 p q r.1 (λ rest l. e rest (omega (arith, size, more, l)))
     after (Err f) j = refl
 
 -- the bound of the turns is enough
@@ -225,8 +224,8 @@ good_again {C = C} L turn s h keep = record {
   some = s;
   judge = λ ts. (from (suc (length ts))).judge ts;
   alike = λ z t r o.
-    let n = suc (length (z ++ t ∷ r)) in let m = suc (length (z ++ t ∷ o)) in
-    rw (steady turn h n (n + m) (z ++ t ∷ r) (omega arith) (omega arith), steady turn h m (n + m) (z ++ t ∷ o) (omega arith) (omega arith)) ((from (n + m)).alike z t r o)
+      let n = suc (length (z ++ t ∷ r)) in let m = suc (length (z ++ t ∷ o)) in
+      rw (steady turn h n (n + m) (z ++ t ∷ r) (omega arith) (omega arith), steady turn h m (n + m) (z ++ t ∷ o) (omega arith) (omega arith)) ((from (n + m)).alike z t r o);
 }
   where
     from : (n : ℕ) → Good L (again_from turn n)
@@ -245,7 +244,7 @@ pub good_look_at : {A : Type 0} (L : Lang A) (f : Option Tok → Parser A) → (
 good_look_at L f g = record {
   some = (g None).some;
   judge = λ ts. (g (first ts)).judge ts refl;
-  alike = both
+  alike = both;
 }
   where
     both : (z : Toks) (t : Tok) (r o : Toks) → Alike (t ∷ r) (t ∷ o) (look f (z ++ t ∷ r)) (look f (z ++ t ∷ o))
@@ -260,7 +259,7 @@ pub good_begun : {A : Type 0} (L : Lang A) (B : Option Tok → Type 0) (p : Pars
 good_begun {A = A} L B p c g some here a x l b = record {
   some = (a, x, (l, b));
   judge = λ ts e. judged ts (p ts) e (g.judge ts);
-  alike = λ z t r o e. g.alike z t r o
+  alike = λ z t r o e. g.alike z t r o;
 }
   where
     front : (ts y rest : Toks) → first ts ≡ c → ts ≡ y ++ rest → 0 < length y → B (first y)
@@ -281,7 +280,7 @@ pub good_sub_at : {A : Type 0} (L M : Lang A) (p : Parser A) (c : Option Tok) �
 good_sub_at {A = A} L M p c h g = record {
   some = (g.some.0, g.some.1, h 0 _ _ g.some.2);
   judge = λ ts e. judged ts (p ts) (g.judge ts e);
-  alike = g.alike
+  alike = g.alike;
 }
   where
     judged : (ts : Toks) (out : Outcome A) → Judge L ts out → Judge M ts out

@@ -1,18 +1,18 @@
 -- The languages of single tokens and of trees.
-use Rattle.std.proofs.Common.{◌≡◌, ℕ, zero, suc, ◌+◌, ◌<◌, ◌≤◌, Bool, true, false, List, [], ◌∷◌, ◌++◌, length, Option, Some, None, refl, sym, ap, subst, ◌∙◌, append_assoc, append-nil, arith}
+use Rattle.std.proofs.Common.{◌≡◌, ℕ, zero, suc, Bool, true, List, [], ◌∷◌, Option, Some, None, refl, sym, ap, subst, ◌∙◌}
 use Rattle.std.specs.Prelude.{◌&&◌}
 use Rattle.script_text.specs.declared.sign.Sign.{Sign}
 use Rattle.script_text.specs.declared.sign.Sign.TheVariants.{Not}
 use Rattle.script_text.specs.declared.word.Reserved.{Reserved}
 use Rattle.script_grammar.specs.Tokens.{Tok, Name, Kept, Integer, Text, Fixed, Toks}
-use Rattle.script_grammar.specs.Trees.{Lit, Number, Word, Named, Ex, Stmt, Item, Items}
+use Rattle.script_grammar.specs.Trees.{Lit, Number, Word, Named, Ex, Stmt, Item}
 use Rattle.script_grammar.specs.Spelling.{spell_lit, spell_word, spell_ex, spell_stmt, spell_item}
 use Rattle.script_grammar.specs.Rules.{Binds, within, RightStmt, within_stmt, RightItem, within_item, is_unary, level_of}
-use Rattle.script_parser.specs.Steps.{Why, Unexpected, TooNested, Parser, take, too_deep}
+use Rattle.script_parser.specs.Steps.{Parser, take}
 use Rattle.script_parser.specs.Tests.{fixed, kept_as, name_of, text_of, word_of, lit_of, unary_of, link_of}
 use Rattle.script_parser.specs.Parser.{Below, expect, keyword, opened}
 use Rattle.script_parser.proofs.Good.{Lang, Example, Good, Taken, good_sub, good_take, good_deep}
-use Rattle.script_parser.proofs.Tests.{of_fixed, of_kept, of_name, of_text, of_word, of_lit, of_unary, of_link, is_fixed, is_kept, is_word, is_lit, is_unary_sign, is_link}
+use Rattle.script_parser.proofs.Tests.{of_fixed, of_kept, of_name, of_text, of_word, of_lit, of_unary, of_link, is_fixed, is_kept, is_link}
 
 abbrev pub Just : Sign → Lang (Unit {0})
 Just s w u ts = ts ≡ Fixed s ∷ []

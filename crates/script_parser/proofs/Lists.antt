@@ -1,13 +1,13 @@
 -- Lists of items, with and without commas.
-use Rattle.std.proofs.Common.{◌≡◌, ℕ, zero, suc, ◌+◌, ◌-◌, ◌<◌, ◌≤◌, Bool, true, false, List, [], ◌∷◌, ◌++◌, length, Option, Some, None, Result, Ok, Err, refl, sym, ap, subst, ◌∙◌, append_assoc, append-nil, arith, ◌⊎◌, inl, inr, length-append}
+use Rattle.std.proofs.Common.{◌≡◌, ℕ, ◌-◌, Bool, true, false, [], ◌∷◌, ◌++◌, length, Option, Some, None, refl, ap, ◌∙◌, append-nil, arith, ◌⊎◌, inl, inr}
 use Rattle.std.specs.Prelude.{if◌then◌else◌}
 use Rattle.script_text.specs.declared.sign.Sign.{Sign}
 use Rattle.script_text.specs.declared.sign.Sign.TheVariants.{Comma}
-use Rattle.script_grammar.specs.Tokens.{Tok, Name, Fixed, Toks}
-use Rattle.script_parser.specs.Steps.{Why, Unexpected, TooNested, Outcome, Parser, and_then, ◌>>=◌, pure, fail, take, first, look, again, many_by, many}
+use Rattle.script_grammar.specs.Tokens.{Tok, Fixed, Toks}
+use Rattle.script_parser.specs.Steps.{Parser, ◌>>=◌, pure, first, look, many_by, many}
 use Rattle.script_parser.specs.Tests.{fixed, sees}
 use Rattle.script_parser.specs.Parser.{expect, comma_by, separated_by, separated}
-use Rattle.script_parser.proofs.Good.{Lang, Example, Good, Seq, Nothing, Taken, Judge, Consumes, Within, Behind, good_pure, good_look, good_sub, good_bind, good_take, good_again, within_behind, within_then, behind_item, again_is}
+use Rattle.script_parser.proofs.Good.{Lang, Good, Seq, Nothing, Taken, Consumes, Within, Behind, good_pure, good_look, good_sub, good_bind, good_take, good_again, within_behind, within_then, behind_item, again_is}
 use Rattle.script_parser.proofs.Tests.{of_fixed, is_fixed}
 
 pub good_expect : (s : Sign) → Good (Taken (fixed s)) (expect s)
@@ -36,9 +36,9 @@ module _ {A C : Type 0} (I : Lang A) (L : Lang C) (goes_on : Tok → Bool) (item
 
   joined : (n : ℕ) (c : C) (ts : Toks) → Seq I (λ a. Seq L (λ cs. Nothing (cons a cs))) n c ts → L n c ts
   joined n c ts h =
-    let m = h.4 in let e = m.4 in
-    let whole : ts ≡ h.1 ++ m.1 = h.5 ∙ ap (λ (v : Toks). h.1 ++ v) (m.5 ∙ ap (λ (v : Toks). m.1 ++ v) e.1 ∙ append-nil m.1) in
-    rw (whole, e.0) (is_cons n h.0 m.0 h.1 m.1 h.3 m.3)
+      let m = h.4 in let e = m.4 in
+      let whole : ts ≡ h.1 ++ m.1 = h.5 ∙ ap (λ (v : Toks). h.1 ++ v) (m.5 ∙ ap (λ (v : Toks). m.1 ++ v) e.1 ∙ append-nil m.1) in
+      rw (whole, e.0) (is_cons n h.0 m.0 h.1 m.1 h.3 m.3)
 
   by : (more : Parser C) → Good L more → (c : Option Tok) → Good L (many_by goes_on item nil cons more c)
   by more g None = none

@@ -1,7 +1,6 @@
 -- Each rule for statements, items and reducers is good for the language of its spelling.
-use Rattle.std.proofs.Common.{◌≡◌, ℕ, zero, suc, ◌+◌, ◌-◌, ◌<◌, ◌≤◌, Bool, true, false, List, [], ◌∷◌, ◌++◌, length, Option, Some, None, refl, sym, ap, subst, ◌∙◌, append_assoc, append-nil, arith, length-append}
-use Rattle.std.specs.Prelude.{◌&&◌, if◌then◌else◌}
-use Rattle.script_text.specs.declared.sign.Sign.{Sign}
+use Rattle.std.proofs.Common.{◌≡◌, ℕ, zero, suc, ◌-◌, ◌<◌, Bool, true, false, List, [], ◌∷◌, ◌++◌, length, Option, Some, None, refl, subst, ◌∙◌, append_assoc, append-nil, arith}
+use Rattle.std.specs.Prelude.{if◌then◌else◌}
 use Rattle.script_text.specs.declared.sign.Sign.TheVariants.{OpenRound, CloseRound, OpenBrace, CloseBrace, Comma, Semicolon, Dot as Point, Assign}
 use Rattle.script_text.specs.declared.word.Reserved.{Reserved}
 use Rattle.script_text.specs.declared.word.Reserved.TheVariants as kept
@@ -9,9 +8,9 @@ use Rattle.script_grammar.specs.Tokens.{Tok, Name, Kept, Integer, Text, Fixed, O
 use Rattle.script_grammar.specs.Trees.{Named, Ex, Literal, Var, Round, ListOf, Object, Member, Unary, Chain, Choice, Dot, NoSuffixes, Stmt, Block, Empty, IfThen, IfElse, Return, ReturnOf, Throw, ThrowError, Delete, Set, Do, Item, Const, Let, LetBe, Plain, Items, NoItems, ThenItem, Params, One, Two, Reducer, Function, Program, NoReducers, ThenReducer}
 use Rattle.script_grammar.specs.Spelling.{spell_ex, spell_stmt, spell_item, spell_items, spell_params, spell_reducer, spell_program}
 use Rattle.script_grammar.specs.Rules.{is_atom, is_member, is_target, Binds, within, opens_brace, begins_brace, is_open, RightStmt, RightItem, RightItems, RightReducer, Right, inner_levels, within_stmt, within_item, within_items, within_reducer, within_program}
-use Rattle.script_parser.specs.Steps.{Why, Unexpected, TooNested, Parser, ◌>>=◌, pure, fail, take, first, look, many, many_by, finish}
-use Rattle.script_parser.specs.Tests.{fixed, name_of, is_some, sees, sees_word, StmtForm, BlockForm, EmptyForm, IfForm, ReturnForm, ThrowForm, DeleteForm, ExprForm, stmt_form, ItemForm, ConstForm, LetForm, PlainForm, item_form, in_block}
-use Rattle.script_parser.specs.Parser.{Below, expect, keyword, opened, expr, post, items, block, inner_by, inner, else_by, may_else, conditional, ended, return_by, thrown_error, throw_by, deleted, assign_by, may_assign, stmt_by, stmt, let_by, item_by, item, below, params_by, params, reducer_body, reducer, reducers, program}
+use Rattle.script_parser.specs.Steps.{Parser, ◌>>=◌, pure, fail, take, first, look, many_by, finish}
+use Rattle.script_parser.specs.Tests.{fixed, name_of, sees, sees_word, StmtForm, BlockForm, EmptyForm, IfForm, ReturnForm, ThrowForm, DeleteForm, ExprForm, stmt_form, ItemForm, ConstForm, LetForm, PlainForm, item_form, in_block}
+use Rattle.script_parser.specs.Parser.{Below, expect, keyword, expr, post, items, block, inner_by, inner, else_by, may_else, conditional, ended, return_by, thrown_error, throw_by, deleted, assign_by, may_assign, stmt_by, stmt, let_by, item_by, item, below, params_by, params, reducer_body, reducer, reducers, program}
 use Rattle.script_parser.proofs.Good.{Lang, Example, Good, GoodAt, Seq, Nothing, End, Begun, Consumes, good_pure, good_fail, good_look, good_look_at, good_at, good_begun, good_sub, good_sub_at, good_bind, good_finish}
 use Rattle.script_parser.proofs.Lists.{good_many, many_is}
 use Rattle.script_parser.proofs.Languages.{Just, JustWord, NameAt, good_sign, good_word, good_name, Of, both_fit, ExAt, StmtAt, ItemAt, Goods, GoodBelow, good_opened, deep_sign}
@@ -142,9 +141,9 @@ good_conditional d b g = good_sub _ (After kept.If (suc d)) _ spelled
   where
     spelled : (n : ℕ) (s : Stmt) (ts : Toks) → Seq (Just OpenRound) (λ _. Seq (ExAt 8 d) (λ e. Seq (Just CloseRound) (λ _. Seq (InnerAt d) (λ s. ElseAt d e s)))) n s ts → After kept.If (suc d) n s ts
     spelled n s ts h = let i = h.4 in let j = i.4 in let k = j.4 in
-      let u = rw h.3 at i.3.2 in
-      let v = rw (h.3, i.3.0, j.3) at k.3.2 in
-      (rw (h.5, h.3, i.5, i.3.0, j.5, j.3, k.5, k.3.0) k.4.0, k.4.1 i.3.1 k.3.1, λ m e. k.4.2 m (rw (e, h.3, i.3.0, j.3, k.3.0) refl) (rw e u) (rw e v))
+        let u = rw h.3 at i.3.2 in
+        let v = rw (h.3, i.3.0, j.3) at k.3.2 in
+        (rw (h.5, h.3, i.5, i.3.0, j.5, j.3, k.5, k.3.0) k.4.0, k.4.1 i.3.1 k.3.1, λ m e. k.4.2 m (rw (e, h.3, i.3.0, j.3, k.3.0) refl) (rw e u) (rw e v))
 
 -- ---- return and throw
 by_return : (d : ℕ) (i : Option Below) → GoodBelow d i → (c : Bool) → Good (After kept.Return d) (return_by i c)
@@ -169,7 +168,7 @@ zero_error = (ThrowError nothing, Fixed OpenRound ∷ Name 0 [] ∷ Fixed CloseR
 by_throw : (d : ℕ) (i : Option Below) → GoodBelow d i → (c : Bool) → Good (After kept.Throw d) (throw_by i c)
 by_throw d i g true = good_sub _ (After kept.Throw d) _ (λ n s ts h. let j = h.4 in (rw (h.5, h.3, j.5, j.3) j.4.0, j.4.1, λ m e. j.4.2 m (rw (e, h.3, j.3) refl)))
     (good_bind (JustWord kept.New) _ (keyword kept.New) _ (good_word kept.New) (λ _. good_bind (JustWord kept.Error) (λ _. ErrorAt d) (keyword kept.Error) _ (good_word kept.Error) (λ _.
-      good_opened ErrorAt (fixed OpenRound) thrown_error zero_error (deep_sign (ErrorAt 0) OpenRound (ThrowError nothing) (Name 0 [] ∷ Fixed CloseRound ∷ Fixed Semicolon ∷ []) (refl, tt, λ m e. rw e refl)) good_error d i g)))
+    good_opened ErrorAt (fixed OpenRound) thrown_error zero_error (deep_sign (ErrorAt 0) OpenRound (ThrowError nothing) (Name 0 [] ∷ Fixed CloseRound ∷ Fixed Semicolon ∷ []) (refl, tt, λ m e. rw e refl)) good_error d i g)))
 by_throw d i g false = good_sub _ (After kept.Throw d) _ (λ n s ts h. let j = h.4 in rw (h.5, h.3.0, j.1, j.0) (refl, h.3.1, λ m e. rw e h.3.2)) (good_bind (ExAt 8 d) _ (expr i) _ (good_expr d i g) (λ e. good_ended (Throw e)))
 
 -- ---- delete
@@ -193,8 +192,11 @@ good_deleted d e = go (is_member e) refl
   where
     go : (x : Bool) → is_member e ≡ x → Good (DeletedAt d e) (if x then ended (Delete e) else fail)
     go true x = good_sub _ (DeletedAt d e) _ (λ n s ts h. rw (h.1, h.0) (refl, λ b. (x, b), λ m q f. f)) (good_ended (Delete e))
-    go false x = good_fail (DeletedAt d e) (Delete (Member e (Dot (Named 0 [])) NoSuffixes), Fixed Point ∷ Name 0 [] ∷ Fixed Semicolon ∷ [],
-      (rw (append_assoc (spell_ex e) (Fixed Point ∷ Name 0 [] ∷ []) (Fixed Semicolon ∷ [])) refl, λ b. (refl, (atom_of e x b, b, tt, tt)), λ m q f. both_fit _ _ f refl))
+    go false x = good_fail (DeletedAt d e) (
+      Delete (Member e (Dot (Named 0 [])) NoSuffixes),
+      Fixed Point ∷ Name 0 [] ∷ Fixed Semicolon ∷ [],
+      (rw (append_assoc (spell_ex e) (Fixed Point ∷ Name 0 [] ∷ []) (Fixed Semicolon ∷ [])) refl, λ b. (refl, (atom_of e x b, b, tt, tt)), λ m q f. both_fit _ _ f refl),
+    )
 
 good_delete : (d : ℕ) (i : Option Below) → GoodBelow d i → Good (After kept.Delete d) (post i >>= λ e. deleted e)
 good_delete d i g = good_sub _ (After kept.Delete d) _ (λ n s ts h. (rw (h.5, h.3.0) h.4.0, h.4.1 h.3.1, λ m e. h.4.2 m (rw (e, h.3.0) refl) (rw e h.3.2)))
@@ -277,10 +279,10 @@ good_by_stmt d i g c ExprForm e = good_sub_at (Begun (ExprAt d) NoBrace) (StmtAt
   where
     plain : (n : ℕ) (s : Stmt) (ts : Toks) → Begun (ExprAt d) NoBrace n s ts → StmtAt d n s ts
     plain n s ts p =
-      let h = p.0 in
-      let front : NoBrace (first (h.1 ++ h.2)) = subst (λ (v : Toks). NoBrace (first v)) h.5 p.1 in
-      let brace : begins_brace (spell_ex h.0) ≡ false = subst (λ (v : Toks). begins_brace v ≡ false) h.3.0 (brace_front h.1 h.2 (consumes_ex 8 d n h.0 h.1 h.3) front) in
-      (rw (h.5, h.3.0) h.4.0, h.4.1 h.3.1 brace, h.4.2 n (rw h.3.0 refl) h.3.2)
+        let h = p.0 in
+        let front : NoBrace (first (h.1 ++ h.2)) = subst (λ (v : Toks). NoBrace (first v)) h.5 p.1 in
+        let brace : begins_brace (spell_ex h.0) ≡ false = subst (λ (v : Toks). begins_brace v ≡ false) h.3.0 (brace_front h.1 h.2 (consumes_ex 8 d n h.0 h.1 h.3) front) in
+        (rw (h.5, h.3.0) h.4.0, h.4.1 h.3.1 brace, h.4.2 n (rw h.3.0 refl) h.3.2)
 
 pub good_stmt : (d : ℕ) (i : Option Below) → GoodBelow d i → Good (StmtAt d) (stmt i)
 good_stmt d i g = good_look_at (StmtAt d) _ (λ c. good_by_stmt d i g c (stmt_form c) refl)
@@ -351,12 +353,12 @@ good_body : (v : ℕ × List ℕ) (d : ℕ) (b : Below) → Goods d b → Good (
 unfolding ParamsAt
 good_body v d b g = good_sub _ (BodyAt v (suc d)) _ spelled
     (good_bind (Just OpenRound) _ (expect OpenRound) _ (good_sign OpenRound) (λ _. good_bind ParamsAt _ params _ good_params (λ ps. good_bind (Just CloseRound) _ (expect CloseRound) _ (good_sign CloseRound) (λ _. good_bind (Just OpenBrace) _ (expect OpenBrace) _ (good_sign OpenBrace) (λ _.
-      good_bind (ItemsAt d) _ (items b) _ (good_items d b g) (λ is. good_bind (Just CloseBrace) _ (expect CloseBrace) _ (good_sign CloseBrace) (λ _. good_pure (Function v.0 v.1 ps is))))))))
+    good_bind (ItemsAt d) _ (items b) _ (good_items d b g) (λ is. good_bind (Just CloseBrace) _ (expect CloseBrace) _ (good_sign CloseBrace) (λ _. good_pure (Function v.0 v.1 ps is))))))))
   where
     spelled : (n : ℕ) (r : Reducer) (ts : Toks) → Seq (Just OpenRound) (λ _. Seq ParamsAt (λ ps. Seq (Just CloseRound) (λ _. Seq (Just OpenBrace) (λ _. Seq (ItemsAt d) (λ is. Seq (Just CloseBrace) (λ _. Nothing (Function v.0 v.1 ps is))))))) n r ts → BodyAt v (suc d) n r ts
     spelled n r ts h = let i = h.4 in let j = i.4 in let k = j.4 in let l = k.4 in let o = l.4 in
-      let u = rw (h.3, i.3, j.3, k.3) at l.3.2 in
-      rw (h.5, h.3, i.5, i.3, j.5, j.3, k.5, k.3, l.5, l.3.0, o.5, o.3, o.4.1, o.4.0) (refl, l.3.1, λ m e. rw e u)
+        let u = rw (h.3, i.3, j.3, k.3) at l.3.2 in
+        rw (h.5, h.3, i.5, i.3, j.5, j.3, k.5, k.3, l.5, l.3.0, o.5, o.3, o.4.1, o.4.0) (refl, l.3.1, λ m e. rw e u)
 
 zero_body : (v : ℕ × List ℕ) → Example (BodyAt v 0)
 zero_body v = (Function v.0 v.1 (One 0 []) NoItems, Fixed OpenRound ∷ Name 0 [] ∷ Fixed CloseRound ∷ Fixed OpenBrace ∷ Fixed CloseBrace ∷ [], (refl, tt, λ m e. rw e refl))
@@ -364,7 +366,7 @@ zero_body v = (Function v.0 v.1 (One 0 []) NoItems, Fixed OpenRound ∷ Name 0 [
 good_reducer : (d : ℕ) (i : Option Below) → GoodBelow d i → Good (ReducerAt d) (reducer i)
 good_reducer d i g = good_sub _ (ReducerAt d) _ (λ n r ts h. let j = h.4 in (rw (h.5, h.3, j.5, j.3) j.4.0, j.4.1, j.4.2 n (rw (h.3, j.3) refl)))
     (good_bind (JustWord kept.Function) _ (keyword kept.Function) _ (good_word kept.Function) (λ _. good_bind NameAt (λ v. BodyAt v d) (take name_of) _ good_name (λ v.
-      good_opened (BodyAt v) (fixed OpenRound) (reducer_body v) (zero_body v) (deep_sign (BodyAt v 0) OpenRound (Function v.0 v.1 (One 0 []) NoItems) (Name 0 [] ∷ Fixed CloseRound ∷ Fixed OpenBrace ∷ Fixed CloseBrace ∷ []) (refl, tt, λ m e. rw e refl)) (good_body v) d i g)))
+    good_opened (BodyAt v) (fixed OpenRound) (reducer_body v) (zero_body v) (deep_sign (BodyAt v 0) OpenRound (Function v.0 v.1 (One 0 []) NoItems) (Name 0 [] ∷ Fixed CloseRound ∷ Fixed OpenBrace ∷ Fixed CloseBrace ∷ []) (refl, tt, λ m e. rw e refl)) (good_body v) d i g)))
 
 some_reducer : (r : Reducer) → 0 < length (spell_reducer r)
 some_reducer (Function at bytes ps is) = omega arith

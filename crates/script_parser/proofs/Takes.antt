@@ -1,12 +1,12 @@
 -- A parser reads what is spelled, whatever may follow, unless a token opens a level too many.
-use Rattle.std.proofs.Common.{◌≡◌, ℕ, zero, suc, ◌+◌, ◌-◌, ◌<◌, ◌≤◌, Bool, true, false, List, [], ◌∷◌, ◌++◌, length, Option, Some, None, Result, Ok, Err, refl, sym, ap, subst, ◌∙◌, append_assoc, append-nil, arith, ◌⊎◌, inl, inr, length-append}
-use Rattle.std.specs.Prelude.{◌&&◌, if◌then◌else◌}
+use Rattle.std.proofs.Common.{◌≡◌, ℕ, suc, ◌+◌, ◌-◌, Bool, true, false, [], ◌∷◌, ◌++◌, length, Option, Some, Ok, Err, refl, sym, ap, subst, ◌∙◌, append_assoc, arith, ◌⊎◌, inl, inr, length-append}
+use Rattle.std.specs.Prelude.{◌&&◌}
 use Rattle.script_text.specs.declared.sign.Sign.{Sign}
 use Rattle.script_text.specs.declared.sign.Sign.TheVariants.{Comma}
 use Rattle.script_text.specs.declared.word.Reserved.{Reserved}
 use Rattle.script_grammar.specs.Tokens.{Tok, Kept, Fixed, Toks}
 use Rattle.script_grammar.specs.Rules.{opens}
-use Rattle.script_parser.specs.Steps.{Why, Unexpected, TooNested, Outcome, Parser, and_then, ◌>>=◌, pure, taken, take, refused, too_deep, first, look, many_by, many}
+use Rattle.script_parser.specs.Steps.{TooNested, Parser, ◌>>=◌, pure, take, too_deep, look, many_by}
 use Rattle.script_parser.specs.Tests.{fixed, kept_as, sees}
 use Rattle.script_parser.specs.Parser.{expect, keyword, comma_by, separated_by}
 use Rattle.script_parser.proofs.Tests.{is_fixed, is_kept}
@@ -95,7 +95,6 @@ module _ {A C : Type 0} (goes_on : Tok → Bool) (item : Parser A) (nil : C) (co
   Stops (t ∷ ts) = goes_on t ≡ false
 
   pub stopped : (rest : Toks) → Stops rest → look (many_by goes_on item nil cons m) rest ≡ Ok (nil, rest)
-
   stopped [] h = refl
   stopped (t ∷ ts) h = rw h refl
 
@@ -127,8 +126,8 @@ module _ {A C : Type 0} (closing : Sign) (item : Parser A) (nil : C) (last : A �
   separated_then c e t x y a cs rest h k l = takes_same (λ n. c n && e (n - length (t ∷ x) - 1)) m (item >>= λ a. look (λ c. comma_by last then_more a m (sees Comma c))) ((t ∷ x) ++ Fixed Comma ∷ y) (then_more a cs) rest
       (opened_item t ((x ++ Fixed Comma ∷ y) ++ rest) h)
       (takes_bind c (λ n. e (n - 1)) item (λ a. look (λ c. comma_by last then_more a m (sees Comma c))) (t ∷ x) (Fixed Comma ∷ y) a (then_more a cs) rest k
-        (takes_same (λ n. e (n - 1)) (look (λ c. comma_by last then_more a m (sees Comma c))) (expect Comma >>= λ _. m >>= λ cs. pure (then_more a cs)) (Fixed Comma ∷ y) (then_more a cs) rest refl
-          (behind_sign e Comma (m >>= λ cs. pure (then_more a cs)) y (then_more a cs) rest (takes_map e m (λ cs. pure (then_more a cs)) y cs (then_more a cs) rest l refl))))
+      (takes_same (λ n. e (n - 1)) (look (λ c. comma_by last then_more a m (sees Comma c))) (expect Comma >>= λ _. m >>= λ cs. pure (then_more a cs)) (Fixed Comma ∷ y) (then_more a cs) rest refl
+      (behind_sign e Comma (m >>= λ cs. pure (then_more a cs)) y (then_more a cs) rest (takes_map e m (λ cs. pure (then_more a cs)) y cs (then_more a cs) rest l refl))))
 
   pub separated_last_at : (c : ℕ → Bool) (x : Toks) (t : Tok) (x' : Toks) (a : A) (rest : Toks) → x ≡ t ∷ x' → sees closing (Some t) ≡ false → Takes c item x a (Fixed closing ∷ rest) → Takes c m x (last a) (Fixed closing ∷ rest)
   separated_last_at c x t x' a rest q h k = subst (λ (w : Toks). Takes c m w (last a) (Fixed closing ∷ rest)) (sym q) (separated_last c t x' a rest h (subst (λ (w : Toks). Takes c item w a (Fixed closing ∷ rest)) q k))

@@ -1,14 +1,14 @@
 -- The parser, one function for each rule. What a rule holds one level down is given to it, or that there is none.
-use Rattle.std.specs.Prelude.{ℕ, zero, suc, Bool, true, false, if◌then◌else◌, List, [], ◌∷◌, Option, Some, None, Result, Ok, Err}
+use Rattle.std.specs.Prelude.{ℕ, zero, suc, Bool, true, false, if◌then◌else◌, List, Option, Some, None}
 use Rattle.script_text.specs.declared.sign.Sign.{Sign}
 use Rattle.script_text.specs.declared.sign.Sign.TheVariants.{OpenRound, CloseRound, OpenBrace, CloseBrace, OpenSquare, CloseSquare, Comma, Semicolon, Colon, Dot as Point, Question, Assign}
 use Rattle.script_text.specs.declared.word.Reserved.{Reserved}
 use Rattle.script_text.specs.declared.word.Reserved.TheVariants as kept
-use Rattle.script_grammar.specs.Tokens.{Tok, Toks}
-use Rattle.script_grammar.specs.Trees.{Lit, Word, Named, Ex, Literal, Var, Round, ListOf, Object, Member, Unary, Chain, Choice, Elems, NoElems, LastElem, ThenElem, Prop, Keyed, Quoted, Short, Props, NoProps, LastProp, ThenProp, Suffix, Dot, Index, Suffixes, NoSuffixes, ThenSuffix, Links, NoLinks, ThenLink, Stmt, Block, Empty, IfThen, IfElse, Return, ReturnOf, Throw, ThrowError, Delete, Set, Do, Item, Const, Let, LetBe, Plain, Items, NoItems, ThenItem, Params, One, Two, Reducer, Function, Program, NoReducers, ThenReducer}
+use Rattle.script_grammar.specs.Tokens.{Tok}
+use Rattle.script_grammar.specs.Trees.{Word, Named, Ex, Literal, Var, Round, ListOf, Object, Member, Unary, Chain, Choice, Elems, NoElems, LastElem, ThenElem, Prop, Keyed, Quoted, Short, Props, NoProps, LastProp, ThenProp, Suffix, Dot, Index, Suffixes, NoSuffixes, ThenSuffix, Links, NoLinks, ThenLink, Stmt, Block, Empty, IfThen, IfElse, Return, ReturnOf, Throw, ThrowError, Delete, Set, Do, Item, Const, Let, LetBe, Plain, Items, NoItems, ThenItem, Params, One, Two, Reducer, Function, Program, NoReducers, ThenReducer}
 use Rattle.script_grammar.specs.Rules.{is_member, is_target, is_open}
 use Rattle.script_parser.specs.Steps.{Parser, ◌>>=◌, pure, fail, take, too_deep, look, again, many, finish}
-use Rattle.script_parser.specs.Tests.{fixed, kept_as, name_of, text_of, word_of, lit_of, unary_of, link_of, is, sees, sees_word, sees_unary, AtomForm, RoundForm, ListForm, ObjectForm, VarForm, OtherForm, atom_form, PropForm, NameForm, QuotedForm, WordForm, prop_form, StmtForm, BlockForm, EmptyForm, IfForm, ReturnForm, ThrowForm, DeleteForm, ExprForm, stmt_form, ItemForm, ConstForm, LetForm, PlainForm, item_form, begins_suffix, begins_link, in_block}
+use Rattle.script_parser.specs.Tests.{fixed, kept_as, name_of, text_of, word_of, lit_of, unary_of, link_of, sees, sees_word, sees_unary, AtomForm, RoundForm, ListForm, ObjectForm, VarForm, OtherForm, atom_form, PropForm, NameForm, QuotedForm, WordForm, prop_form, StmtForm, BlockForm, EmptyForm, IfForm, ReturnForm, ThrowForm, DeleteForm, ExprForm, stmt_form, ItemForm, ConstForm, LetForm, PlainForm, item_form, begins_suffix, begins_link, in_block}
 
 -- the parsers one level down
 pub record Below : Type 0 where

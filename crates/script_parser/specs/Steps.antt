@@ -1,5 +1,5 @@
 -- The steps that every rule of the parser is made of.
-use Rattle.std.specs.Prelude.{ℕ, zero, suc, Bool, true, false, if◌then◌else◌, List, [], ◌∷◌, length, Option, Some, None, Result, Ok, Err}
+use Rattle.std.specs.Prelude.{ℕ, zero, suc, Bool, if◌then◌else◌, [], ◌∷◌, length, Option, Some, None, Result, Ok, Err}
 use Rattle.script_grammar.specs.Tokens.{Tok, Toks}
 
 pub data Why : Type 0 where

@@ -9,5 +9,4 @@ ghost use Rattle.script_parser.specs.Exact.{Exact};
 /// that the tokens spell, every program is read, and a fault stands at the first token that is not to be there.
 pub fn parser_is_exact()
     ensures { (d : ℕ) (ts : Toks) → Exact d ts }
-{
-}
+{}

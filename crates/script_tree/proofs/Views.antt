@@ -1,7 +1,7 @@
 -- What each syntax tree stands for, by its variant.
-use Rattle.std.proofs.Common.{◌≡◌, ℕ, ℤ, Bool, List, [], ◌∷◌, refl, sym, ap, ◌∙◌, map}
+use Rattle.std.proofs.Common.{◌≡◌, ℕ, ℤ, Bool, List, sym, ap, ◌∙◌, map}
 use Rattle.script_text.specs.declared.sign.Sign.{Sign}
-use Rattle.script_grammar.specs.Trees.{Lit, Number, Quote, True, False, Null, Undefined, Ex, Literal, Var, Round, ListOf, Object, Unary, Choice}
+use Rattle.script_grammar.specs.Trees.{Number, Quote, True, False, Null, Undefined, Ex, Literal, Var, Round, ListOf, Object, Unary, Choice}
 use Rattle.script_tree.specs.declared.Name.{Name}
 use Rattle.script_tree.specs.declared.Label.{Label}
 use Rattle.script_tree.specs.declared.Access.{Access}

@@ -41,7 +41,7 @@ pub enum Expr {
     Object(Items<(Label, Expr)>, bool),
     Member(Boxed<Expr>, Items<(Access, Items<Expr>)>),
     Unary(Sign, Boxed<Expr>),
-    Chain(u8, Boxed<Expr>, Items<(Sign, Expr)>),
+    Chain(usize, Boxed<Expr>, Items<(Sign, Expr)>),
     Choice(Boxed<Expr>, Boxed<Expr>, Boxed<Expr>),
 }
 
