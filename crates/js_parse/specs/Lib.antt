@@ -1,3 +1,4 @@
 pub mod Lists
+pub mod Nests
 pub mod Next
 pub mod Reading
