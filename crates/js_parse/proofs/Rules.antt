@@ -1,0 +1,308 @@
+-- What each rule for expressions does at the next token and the levels that are left.
+use Rattle.std.proofs.Common.{◌≡◌, ◌≢◌, ℕ, zero, suc, ◌+◌, ◌-◌, ◌<◌, ◌≤◌, Bool, true, false, List, [], ◌∷◌, ◌++◌, length, drop, map, Option, Some, None, Ok, Err, refl, sym, ap, subst, ◌∙◌, arith, append_assoc}
+use Rattle.std.specs.Prelude.{if◌then◌else◌}
+use Rattle.script_text.specs.declared.sign.Sign.{Sign}
+use Rattle.script_text.specs.declared.sign.Sign.TheVariants.{OpenRound, OpenBrace, CloseBrace, OpenSquare, CloseSquare, Comma, Question}
+use Rattle.script_text.specs.declared.token.Token.{Token}
+use Rattle.script_grammar.specs.Tokens.{Tok, Name, Kept, Integer, Text, Fixed, Other, Toks}
+use Rattle.script_grammar.specs.Trees.{Ex, Unary, Member, Links, NoLinks, ThenLink, Elems, NoElems, LastElem, ThenElem, Props, NoProps, LastProp, ThenProp, Suffixes, NoSuffixes, ThenSuffix}
+use Rattle.script_parser.specs.Steps.{Unexpected, TooNested, Outcome, Parser, and_then, ◌>>=◌, pure, take as read, too_deep, first, look, many_by, Why}
+use Rattle.script_parser.specs.Tests.{fixed, name_of, unary_of, link_of, begins_link, is_some, sees, sees_unary, atom_form, RoundForm, ListForm, ObjectForm, VarForm, OtherForm}
+use Rattle.script_parser.specs.Parser.{Below, opened, comma_by, elems, props, prop, member, suffixes, choice_by, rounded, listed, objected, named, literal, atom_by, atom, index, dot, suffix, post, unary, chain, link, then_link, links, choice, expr, chained, below}
+use Rattle.script_parser.proofs.Tests.{of_fixed}
+use Rattle.script_parser.proofs.Accept.{under, goods_under, chain_good}
+use Rattle.script_parser.proofs.Expressions.{elems_is, props_is, suffixes_is}
+use Rattle.script_parser.proofs.Statements.{good_below}
+use Rattle.script_tree.specs.declared.Label.{Label}
+use Rattle.script_tree.specs.declared.Access.{Access}
+use Rattle.script_tree.specs.declared.Expr.{Expr}
+use Rattle.script_tree.specs.View.{view, chain_of, links_of, member_of, suffix_of, suffixes_of, prop_of, elems_of, props_of}
+use Rattle.js_parse.specs.Next.{made, linked}
+use Rattle.js_parse.specs.Reading.{toks}
+use Rattle.js_parse.specs.Lists.{links_before, onto_links, suffix_view, one_suffix, suffix_next, suffixes_before, onto_suffixes, elems_before, onto_elems, prop_view, one_prop, props_before, onto_props}
+use Rattle.js_parse.proofs.Seen.{read_some, sign_read}
+
+-- the next token is this sign
+seen_sign : (s : Sign) (ts : Toks) → sees s (first ts) ≡ true → (x : Toks) × (ts ≡ Fixed s ∷ x)
+seen_sign s [] h = absurd cc
+seen_sign s (t ∷ ts) h = go (fixed s t) refl h
+  where
+    go : (o : Option (Unit {0})) → fixed s t ≡ o → is_some o ≡ true → (x : Toks) × (t ∷ ts ≡ Fixed s ∷ x)
+    go None e h = absurd cc
+    go (Some u) e h = (ts, ap (λ (t : Tok). t ∷ ts) (of_fixed s t u e))
+
+deep : {A B : Type 0} (f : Tok → Option B) (p : Below → Parser A) (d : ℕ) (ts : Toks) (b : B) → d ≡ 0 → made f (first ts) ≡ Some b → opened (below d) f p ts ≡ Err (TooNested, ts)
+unfolding below too_deep
+deep f p zero [] b e h = absurd cc
+deep f p zero (t ∷ ts) b e h = rw h refl
+deep f p (suc d) ts b e h = absurd (omega (arith, e))
+
+within : {A B : Type 0} (f : Tok → Option B) (p : Below → Parser A) (d : ℕ) (ts : Toks) → d ≢ 0 → opened (below d) f p ts ≡ p (under (d - 1)) ts
+unfolding below
+within f p zero ts e = absurd (e refl)
+within f p (suc d) ts e = let same : d ≡ suc d - 1 = omega arith in ap (λ (k : ℕ). p (under k) ts) same
+
+made_sign : (s : Sign) (ts : Toks) → sees s (first ts) ≡ true → made (fixed s) (first ts) ≡ Some tt
+made_sign s [] h = absurd cc
+made_sign s (t ∷ ts) h = go (fixed s t) h
+  where
+    go : (o : Option (Unit {0})) → is_some o ≡ true → o ≡ Some tt
+    go None h = absurd cc
+    go (Some u) h = refl
+
+-- ---- atoms
+round_form : (ts : Toks) → sees OpenRound (first ts) ≡ true → atom_form (first ts) ≡ RoundForm
+round_form ts h = let f = seen_sign OpenRound ts h in rw f.1 refl
+
+list_form : (ts : Toks) → sees OpenSquare (first ts) ≡ true → atom_form (first ts) ≡ ListForm
+list_form ts h = let f = seen_sign OpenSquare ts h in rw f.1 refl
+
+object_form : (ts : Toks) → sees OpenBrace (first ts) ≡ true → atom_form (first ts) ≡ ObjectForm
+object_form ts h = let f = seen_sign OpenBrace ts h in rw f.1 refl
+
+name_form : (ts : Toks) → is_some (made name_of (first ts)) ≡ true → atom_form (first ts) ≡ VarForm
+name_form [] h = absurd cc
+name_form (Name at bytes ∷ ts) h = refl
+name_form (Kept r ∷ ts) h = absurd cc
+name_form (Integer n ∷ ts) h = absurd cc
+name_form (Text b ∷ ts) h = absurd cc
+name_form (Other ∷ ts) h = absurd cc
+name_form (Fixed s ∷ ts) h = absurd cc
+
+other_form : (ts : Toks) → sees OpenRound (first ts) ≡ false → sees OpenSquare (first ts) ≡ false → sees OpenBrace (first ts) ≡ false → is_some (made name_of (first ts)) ≡ false → atom_form (first ts) ≡ OtherForm
+other_form [] a b c h = refl
+other_form (Name at bytes ∷ ts) a b c h = absurd cc
+other_form (Kept r ∷ ts) a b c h = refl
+other_form (Integer n ∷ ts) a b c h = refl
+other_form (Text v ∷ ts) a b c h = refl
+other_form (Other ∷ ts) a b c h = refl
+other_form (Fixed OpenRound ∷ ts) a b c h = absurd cc
+other_form (Fixed OpenSquare ∷ ts) a b c h = absurd cc
+other_form (Fixed OpenBrace ∷ ts) a b c h = absurd cc
+other_form (Fixed _ ∷ ts) a b c h = refl
+
+pub atom_round_deep : (d : ℕ) (ts : Toks) → d ≡ 0 → sees OpenRound (first ts) ≡ true → atom (below d) ts ≡ Err (TooNested, ts)
+atom_round_deep d ts e h = rw (round_form ts h) (deep (fixed OpenRound) rounded d ts tt e (made_sign OpenRound ts h))
+
+pub atom_round : (d : ℕ) (ts : Toks) → d ≢ 0 → sees OpenRound (first ts) ≡ true → atom (below d) ts ≡ rounded (under (d - 1)) ts
+atom_round d ts e h = rw (round_form ts h) (within (fixed OpenRound) rounded d ts e)
+
+pub atom_list_deep : (d : ℕ) (ts : Toks) → d ≡ 0 → sees OpenSquare (first ts) ≡ true → atom (below d) ts ≡ Err (TooNested, ts)
+atom_list_deep d ts e h = rw (list_form ts h) (deep (fixed OpenSquare) listed d ts tt e (made_sign OpenSquare ts h))
+
+pub atom_list : (d : ℕ) (ts : Toks) → d ≢ 0 → sees OpenSquare (first ts) ≡ true → atom (below d) ts ≡ listed (under (d - 1)) ts
+atom_list d ts e h = rw (list_form ts h) (within (fixed OpenSquare) listed d ts e)
+
+pub atom_object_deep : (d : ℕ) (ts : Toks) → d ≡ 0 → sees OpenBrace (first ts) ≡ true → atom (below d) ts ≡ Err (TooNested, ts)
+atom_object_deep d ts e h = rw (object_form ts h) (deep (fixed OpenBrace) objected d ts tt e (made_sign OpenBrace ts h))
+
+pub atom_object : (d : ℕ) (ts : Toks) → d ≢ 0 → sees OpenBrace (first ts) ≡ true → atom (below d) ts ≡ objected (under (d - 1)) ts
+atom_object d ts e h = rw (object_form ts h) (within (fixed OpenBrace) objected d ts e)
+
+pub atom_name : (d : ℕ) (ts : Toks) → is_some (made name_of (first ts)) ≡ true → atom (below d) ts ≡ named ts
+atom_name d ts h = rw (name_form ts h) refl
+
+pub atom_other : (d : ℕ) (ts : Toks) → sees OpenRound (first ts) ≡ false → sees OpenSquare (first ts) ≡ false → sees OpenBrace (first ts) ≡ false → is_some (made name_of (first ts)) ≡ false → atom (below d) ts ≡ literal ts
+atom_other d ts a b c h = rw (other_form ts a b c h) refl
+
+-- ---- signs
+unary_seen : (ts : Toks) (o : Option Sign) → made unary_of (first ts) ≡ o → sees_unary (first ts) ≡ is_some o
+unary_seen [] o h = rw (← h) refl
+unary_seen (t ∷ ts) o h = ap is_some h
+
+pub unary_deep : (d : ℕ) (ts : Toks) (s : Sign) → d ≡ 0 → Some s ≡ made unary_of (first ts) → unary (below d) ts ≡ Err (TooNested, ts)
+unary_deep d ts s e h = rw (unary_seen ts (Some s) (sym h)) (deep unary_of _ d ts s e (sym h))
+
+pub unary_sign : (d : ℕ) (bytes : List ℕ) (tokens : List Token) (at : ℕ) (s : Sign) → d ≢ 0 → Some s ≡ made unary_of (first (toks bytes tokens at)) → unary (below d) (toks bytes tokens at) ≡ and_then (unary (below (d - 1)) (toks bytes tokens (at + 1))) (λ e. pure (Unary s e))
+unary_sign d bytes tokens at s e h = rw (unary_seen (toks bytes tokens at) (Some s) (sym h)) (within unary_of _ d (toks bytes tokens at) e ∙ rw (read_some unary_of bytes tokens at s (sym h)) refl)
+
+pub unary_post : (d : ℕ) (ts : Toks) → None ≡ made unary_of (first ts) → unary (below d) ts ≡ post (below d) ts
+unary_post d ts h = rw (unary_seen ts None (sym h)) refl
+
+-- ---- chains
+pub chain_none : (d k : ℕ) (ts : Toks) → k ≡ 0 → chain (below d) k ts ≡ unary (below d) ts
+unfolding chain
+chain_none d zero ts e = refl
+chain_none d (suc k) ts e = absurd (omega (arith, e))
+
+pub chain_some : (d k : ℕ) (ts : Toks) → k ≢ 0 → chain (below d) k ts ≡ and_then (chain (below d) (k - 1) ts) (λ a. links (k - 1) (chain (below d) (k - 1)) >>= λ ls. pure (chained (k - 1) a ls))
+unfolding chain
+chain_some d zero ts e = absurd (e refl)
+chain_some d (suc k) ts e = let same : k ≡ suc k - 1 = omega arith in ap (λ (j : ℕ). and_then (chain (below d) j ts) (λ a. links j (chain (below d) j) >>= λ ls. pure (chained j a ls))) same
+
+pub chained_is : (k : ℕ) (a : Ex) (ls : List (Sign × Expr)) → chained k a (links_before ls NoLinks) ≡ chain_of k a (map (λ (l : Sign × Expr). (l.0, view l.1)) ls)
+chained_is k a [] = refl
+chained_is k a (l ∷ ls) = ap (Rattle.script_grammar.specs.Trees.Chain k a l.0 (view l.1)) (links_same ls)
+  where
+    links_same : (ls : List (Sign × Expr)) → links_before ls NoLinks ≡ links_of (map (λ (l : Sign × Expr). (l.0, view l.1)) ls)
+    links_same [] = refl
+    links_same (l ∷ ls) = ap (ThenLink l.0 (view l.1)) (links_same ls)
+
+links_more : (found : List (Sign × Expr)) (l : Sign × Expr) (out : Outcome Links) → onto_links found (and_then out (λ ls. pure (ThenLink l.0 (view l.1) ls))) ≡ onto_links (found ++ l ∷ []) out
+links_more found l (Err e) = refl
+links_more found l (Ok q) = ap (λ (ls : Links). Ok (ls, q.1)) (go found)
+  where
+    go : (found : List (Sign × Expr)) → links_before found (ThenLink l.0 (view l.1) q.0) ≡ links_before (found ++ l ∷ []) q.0
+    go [] = refl
+    go (m ∷ ms) = ap (ThenLink m.0 (view m.1)) (go ms)
+
+pub links_start : (out : Outcome Links) → onto_links [] out ≡ out
+links_start (Ok q) = refl
+links_start (Err e) = refl
+
+pub links_end : (d k : ℕ) (found : List (Sign × Expr)) (ts : Toks) → k < 6 → None ≡ linked k ts → onto_links found (links k (chain (below d) k) ts) ≡ Ok (links_before found NoLinks, ts)
+unfolding linked
+links_end d k found [] l h = rw (chain_good d k (omega (arith, l)) [] l) refl
+links_end d k found (t ∷ ts) l h = rw (chain_good d k (omega (arith, l)) (t ∷ ts) l, ← h) refl
+
+-- a step inside a step
+nested : {A B C : Type 0} (out : Outcome A) (f : A → B) (g : B → Parser C) → and_then (and_then out (λ a. pure (f a))) g ≡ and_then out (λ a. g (f a))
+nested (Ok q) f g = refl
+nested (Err e) f g = refl
+
+links_go : (d k : ℕ) (bytes : List ℕ) (tokens : List Token) (at : ℕ) (s : Sign) → k < 6 → Some s ≡ linked k (toks bytes tokens at)
+    → links k (chain (below d) k) (toks bytes tokens at) ≡ and_then (chain (below d) k (toks bytes tokens (at + 1))) (λ e. links k (chain (below d) k) >>= λ ls. pure (ThenLink s e ls))
+unfolding linked
+links_go d k bytes tokens at s l h = chain_good d k (omega (arith, l)) (toks bytes tokens at) l ∙ by (first (toks bytes tokens at)) h
+    ∙ rw (read_some (link_of k) bytes tokens at s (sym h)) (nested (chain (below d) k (toks bytes tokens (at + 1))) (λ e. (s, e)) (λ x. links k (chain (below d) k) >>= λ ls. pure (then_link x ls)))
+  where
+    by : (c : Option Tok) → Some s ≡ made (link_of k) c → many_by (begins_link k) (link k (chain (below d) k)) NoLinks then_link (links k (chain (below d) k)) c (toks bytes tokens at) ≡ (link k (chain (below d) k) >>= λ x. links k (chain (below d) k) >>= λ ls. pure (then_link x ls)) (toks bytes tokens at)
+    by None h = absurd cc
+    by (Some t) h = rw (← h) refl
+
+pub links_on : (d k : ℕ) (bytes : List ℕ) (tokens : List Token) (at next : ℕ) (s : Sign) (e : Expr) (found : List (Sign × Expr)) → k < 6 → Some s ≡ linked k (toks bytes tokens at) → chain (below d) k (toks bytes tokens (at + 1)) ≡ Ok (view e, toks bytes tokens next)
+    → onto_links found (links k (chain (below d) k) (toks bytes tokens at)) ≡ onto_links (found ++ (s, e) ∷ []) (links k (chain (below d) k) (toks bytes tokens next))
+links_on d k bytes tokens at next s e found l h c = ap (onto_links found) (links_go d k bytes tokens at s l h ∙ rw c refl) ∙ links_more found (s, e) (links k (chain (below d) k) (toks bytes tokens next))
+
+pub links_fault : (d k : ℕ) (bytes : List ℕ) (tokens : List Token) (at : ℕ) (s : Sign) (x : Why × Toks) (found : List (Sign × Expr)) → k < 6 → Some s ≡ linked k (toks bytes tokens at) → chain (below d) k (toks bytes tokens (at + 1)) ≡ Err x
+    → onto_links found (links k (chain (below d) k) (toks bytes tokens at)) ≡ Err x
+links_fault d k bytes tokens at s x found l h c = let whole : links k (chain (below d) k) (toks bytes tokens at) ≡ Err x = links_go d k bytes tokens at s l h ∙ rw c refl in ap (onto_links found) whole
+
+-- ---- suffixes
+pub suffix_deep : (d : ℕ) (ts : Toks) → d ≡ 0 → sees OpenSquare (first ts) ≡ true → suffix (below d) ts ≡ Err (TooNested, ts)
+suffix_deep d ts e h = rw h (deep (fixed OpenSquare) index d ts tt e (made_sign OpenSquare ts h))
+
+pub suffix_index : (d : ℕ) (ts : Toks) → d ≢ 0 → sees OpenSquare (first ts) ≡ true → suffix (below d) ts ≡ index (under (d - 1)) ts
+suffix_index d ts e h = rw h (within (fixed OpenSquare) index d ts e)
+
+pub suffix_dot : (d : ℕ) (ts : Toks) → sees OpenSquare (first ts) ≡ false → suffix (below d) ts ≡ dot ts
+suffix_dot d ts h = rw h refl
+
+pub member_is : (e : Ex) (ss : List (Access × List Expr)) → member e (suffixes_before ss NoSuffixes) ≡ member_of e (map suffix_view ss)
+member_is e [] = refl
+member_is e (s ∷ ss) = ap (Member e (suffix_of (suffix_view s))) (go ss)
+  where
+    go : (ss : List (Access × List Expr)) → suffixes_before ss NoSuffixes ≡ suffixes_of (map suffix_view ss)
+    go [] = refl
+    go (s ∷ ss) = ap (ThenSuffix (suffix_of (suffix_view s))) (go ss)
+
+suffixes_more : (found : List (Access × List Expr)) (s : Access × List Expr) (out : Outcome Suffixes) → onto_suffixes found (and_then out (λ ss. pure (ThenSuffix (one_suffix s) ss))) ≡ onto_suffixes (found ++ s ∷ []) out
+suffixes_more found s (Err e) = refl
+suffixes_more found s (Ok q) = ap (λ (ss : Suffixes). Ok (ss, q.1)) (go found)
+  where
+    go : (found : List (Access × List Expr)) → suffixes_before found (ThenSuffix (one_suffix s) q.0) ≡ suffixes_before (found ++ s ∷ []) q.0
+    go [] = refl
+    go (m ∷ ms) = ap (ThenSuffix (suffix_of (suffix_view m))) (go ms)
+
+pub suffixes_start : (out : Outcome Suffixes) → onto_suffixes [] out ≡ out
+suffixes_start (Ok q) = refl
+suffixes_start (Err e) = refl
+
+pub suffixes_end : (d : ℕ) (found : List (Access × List Expr)) (ts : Toks) → suffix_next (first ts) ≡ false → onto_suffixes found (suffixes (below d) ts) ≡ Ok (suffixes_before found NoSuffixes, ts)
+suffixes_end d found [] h = rw (suffixes_is d (below d) (good_below d) []) refl
+suffixes_end d found (t ∷ ts) h = rw (suffixes_is d (below d) (good_below d) (t ∷ ts), h) refl
+
+suffixes_go : (d : ℕ) (ts : Toks) → suffix_next (first ts) ≡ true → suffixes (below d) ts ≡ and_then (suffix (below d) ts) (λ s. suffixes (below d) >>= λ ss. pure (ThenSuffix s ss))
+suffixes_go d [] h = absurd cc
+suffixes_go d (t ∷ ts) h = suffixes_is d (below d) (good_below d) (t ∷ ts) ∙ rw h refl
+
+pub suffixes_on : (d : ℕ) (ts rest : Toks) (s : Access × List Expr) (found : List (Access × List Expr)) → suffix_next (first ts) ≡ true → suffix (below d) ts ≡ Ok (one_suffix s, rest) → onto_suffixes found (suffixes (below d) ts) ≡ onto_suffixes (found ++ s ∷ []) (suffixes (below d) rest)
+suffixes_on d ts rest s found h c = ap (onto_suffixes found) (suffixes_go d ts h ∙ rw c refl) ∙ suffixes_more found s (suffixes (below d) rest)
+
+pub suffixes_fault : (d : ℕ) (ts : Toks) (x : Why × Toks) (found : List (Access × List Expr)) → suffix_next (first ts) ≡ true → suffix (below d) ts ≡ Err x → onto_suffixes found (suffixes (below d) ts) ≡ Err x
+suffixes_fault d ts x found h c = let whole : suffixes (below d) ts ≡ Err x = suffixes_go d ts h ∙ rw c refl in ap (onto_suffixes found) whole
+
+-- ---- elements
+elems_more : (found : List Expr) (e : Expr) (out : Outcome Elems) → onto_elems found (and_then out (λ es. pure (ThenElem (view e) es))) ≡ onto_elems (found ++ e ∷ []) out
+elems_more found e (Err x) = refl
+elems_more found e (Ok q) = ap (λ (es : Elems). Ok (es, q.1)) (go found)
+  where
+    go : (found : List Expr) → elems_before found (ThenElem (view e) q.0) ≡ elems_before (found ++ e ∷ []) q.0
+    go [] = refl
+    go (m ∷ ms) = ap (ThenElem (view m)) (go ms)
+
+pub elems_start : (out : Outcome Elems) → onto_elems [] out ≡ out
+elems_start (Ok q) = refl
+elems_start (Err e) = refl
+
+elems_closed : (found : List Expr) → elems_before found NoElems ≡ elems_of (map view found) true
+elems_closed [] = refl
+elems_closed (e ∷ []) = refl
+elems_closed (e ∷ f ∷ es) = ap (ThenElem (view e)) (elems_closed (f ∷ es))
+
+elems_ended : (found : List Expr) (e : Expr) → elems_before found (LastElem (view e)) ≡ elems_of (map view (found ++ e ∷ [])) false
+elems_ended [] e = refl
+elems_ended (f ∷ []) e = refl
+elems_ended (f ∷ g ∷ es) e = ap (ThenElem (view f)) (elems_ended (g ∷ es) e)
+
+pub elems_end : (d : ℕ) (found : List Expr) (ts : Toks) → sees CloseSquare (first ts) ≡ true → onto_elems found (elems (under d) ts) ≡ Ok (elems_of (map view found) true, ts)
+elems_end d found ts h = let whole : elems (under d) ts ≡ Ok (NoElems, ts) = elems_is d (under d) (goods_under d) ts ∙ rw h refl in ap (onto_elems found) whole ∙ ap (λ (es : Elems). Ok (es, ts)) (elems_closed found)
+
+elems_go : (d : ℕ) (ts : Toks) → sees CloseSquare (first ts) ≡ false → elems (under d) ts ≡ and_then (expr (below d) ts) (λ a. look (λ c. comma_by LastElem ThenElem a (elems (under d)) (sees Comma c)))
+elems_go d ts h = elems_is d (under d) (goods_under d) ts ∙ rw h refl
+
+pub elems_last : (d : ℕ) (ts rest : Toks) (e : Expr) (found : List Expr) → sees CloseSquare (first ts) ≡ false → expr (below d) ts ≡ Ok (view e, rest) → sees Comma (first rest) ≡ false → onto_elems found (elems (under d) ts) ≡ Ok (elems_of (map view (found ++ e ∷ [])) false, rest)
+elems_last d ts rest e found h c k = let whole : elems (under d) ts ≡ Ok (LastElem (view e), rest) = elems_go d ts h ∙ rw (c, k) refl in ap (onto_elems found) whole ∙ ap (λ (es : Elems). Ok (es, rest)) (elems_ended found e)
+
+pub elems_on : (d : ℕ) (bytes : List ℕ) (tokens : List Token) (ts : Toks) (next : ℕ) (e : Expr) (found : List Expr) → sees CloseSquare (first ts) ≡ false → expr (below d) ts ≡ Ok (view e, toks bytes tokens next) → sees Comma (first (toks bytes tokens next)) ≡ true
+    → onto_elems found (elems (under d) ts) ≡ onto_elems (found ++ e ∷ []) (elems (under d) (toks bytes tokens (next + 1)))
+elems_on d bytes tokens ts next e found h c k = ap (onto_elems found) (elems_go d ts h ∙ rw (c, k, sign_read Comma bytes tokens next k) refl) ∙ elems_more found e (elems (under d) (toks bytes tokens (next + 1)))
+
+pub elems_fault : (d : ℕ) (ts : Toks) (x : Why × Toks) (found : List Expr) → sees CloseSquare (first ts) ≡ false → expr (below d) ts ≡ Err x → onto_elems found (elems (under d) ts) ≡ Err x
+elems_fault d ts x found h c = let whole : elems (under d) ts ≡ Err x = elems_go d ts h ∙ rw c refl in ap (onto_elems found) whole
+
+-- ---- members of object literals
+props_more : (found : List (Label × Expr)) (p : Label × Expr) (out : Outcome Props) → onto_props found (and_then out (λ ps. pure (ThenProp (one_prop p) ps))) ≡ onto_props (found ++ p ∷ []) out
+props_more found p (Err x) = refl
+props_more found p (Ok q) = ap (λ (ps : Props). Ok (ps, q.1)) (go found)
+  where
+    go : (found : List (Label × Expr)) → props_before found (ThenProp (one_prop p) q.0) ≡ props_before (found ++ p ∷ []) q.0
+    go [] = refl
+    go (m ∷ ms) = ap (ThenProp (prop_of (prop_view m))) (go ms)
+
+pub props_start : (out : Outcome Props) → onto_props [] out ≡ out
+props_start (Ok q) = refl
+props_start (Err e) = refl
+
+props_closed : (found : List (Label × Expr)) → props_before found NoProps ≡ props_of (map prop_view found) true
+props_closed [] = refl
+props_closed (e ∷ []) = refl
+props_closed (e ∷ f ∷ es) = ap (ThenProp (prop_of (prop_view e))) (props_closed (f ∷ es))
+
+props_ended : (found : List (Label × Expr)) (p : Label × Expr) → props_before found (LastProp (one_prop p)) ≡ props_of (map prop_view (found ++ p ∷ [])) false
+props_ended [] e = refl
+props_ended (f ∷ []) e = refl
+props_ended (f ∷ g ∷ es) e = ap (ThenProp (prop_of (prop_view f))) (props_ended (g ∷ es) e)
+
+pub props_end : (d : ℕ) (found : List (Label × Expr)) (ts : Toks) → sees CloseBrace (first ts) ≡ true → onto_props found (props (under d) ts) ≡ Ok (props_of (map prop_view found) true, ts)
+props_end d found ts h = let whole : props (under d) ts ≡ Ok (NoProps, ts) = props_is d (under d) (goods_under d) ts ∙ rw h refl in ap (onto_props found) whole ∙ ap (λ (ps : Props). Ok (ps, ts)) (props_closed found)
+
+props_go : (d : ℕ) (ts : Toks) → sees CloseBrace (first ts) ≡ false → props (under d) ts ≡ and_then (prop (under d) ts) (λ a. look (λ c. comma_by LastProp ThenProp a (props (under d)) (sees Comma c)))
+props_go d ts h = props_is d (under d) (goods_under d) ts ∙ rw h refl
+
+pub props_last : (d : ℕ) (ts rest : Toks) (p : Label × Expr) (found : List (Label × Expr)) → sees CloseBrace (first ts) ≡ false → prop (under d) ts ≡ Ok (one_prop p, rest) → sees Comma (first rest) ≡ false → onto_props found (props (under d) ts) ≡ Ok (props_of (map prop_view (found ++ p ∷ [])) false, rest)
+props_last d ts rest p found h c k = let whole : props (under d) ts ≡ Ok (LastProp (one_prop p), rest) = props_go d ts h ∙ rw (c, k) refl in ap (onto_props found) whole ∙ ap (λ (ps : Props). Ok (ps, rest)) (props_ended found p)
+
+pub props_on : (d : ℕ) (bytes : List ℕ) (tokens : List Token) (ts : Toks) (next : ℕ) (p : Label × Expr) (found : List (Label × Expr)) → sees CloseBrace (first ts) ≡ false → prop (under d) ts ≡ Ok (one_prop p, toks bytes tokens next) → sees Comma (first (toks bytes tokens next)) ≡ true
+    → onto_props found (props (under d) ts) ≡ onto_props (found ++ p ∷ []) (props (under d) (toks bytes tokens (next + 1)))
+props_on d bytes tokens ts next p found h c k = ap (onto_props found) (props_go d ts h ∙ rw (c, k, sign_read Comma bytes tokens next k) refl) ∙ props_more found p (props (under d) (toks bytes tokens (next + 1)))
+
+pub props_fault : (d : ℕ) (ts : Toks) (x : Why × Toks) (found : List (Label × Expr)) → sees CloseBrace (first ts) ≡ false → prop (under d) ts ≡ Err x → onto_props found (props (under d) ts) ≡ Err x
+props_fault d ts x found h c = let whole : props (under d) ts ≡ Err x = props_go d ts h ∙ rw c refl in ap (onto_props found) whole
+
+-- ---- choices
+pub choice_deep : (d : ℕ) (c : Ex) (ts : Toks) → d ≡ 0 → sees Question (first ts) ≡ true → look (λ t. choice_by (below d) c (sees Question t)) ts ≡ Err (TooNested, ts)
+choice_deep d c ts e h = rw h (deep (fixed Question) (choice c) d ts tt e (made_sign Question ts h))
+
+pub choice_in : (d : ℕ) (c : Ex) (ts : Toks) → d ≢ 0 → sees Question (first ts) ≡ true → look (λ t. choice_by (below d) c (sees Question t)) ts ≡ choice c (under (d - 1)) ts
+choice_in d c ts e h = rw h (within (fixed Question) (choice c) d ts e)

@@ -1,0 +1,5 @@
+pub mod Tokens
+pub mod Trees
+pub mod Spelling
+pub mod Rules
+pub mod Programs

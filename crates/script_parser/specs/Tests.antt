@@ -1,0 +1,146 @@
+-- Tests of one token.
+use Rattle.std.specs.Prelude.{ℕ, Bool, true, false, if◌then◌else◌, ◌==◌, List, Option, Some, None}
+use Rattle.script_text.specs.declared.sign.Sign.{Sign}
+use Rattle.script_text.specs.declared.sign.Sign.TheVariants.{Same, NotSame, AtMost, AtLeast, And, Or, OpenRound, CloseRound, OpenBrace, CloseBrace, OpenSquare, CloseSquare, Comma, Semicolon, Colon, Dot, Question, Assign, Less, Greater, Plus, Minus, Star, Percent, Not}
+use Rattle.script_text.specs.declared.word.Reserved.{Reserved}
+use Rattle.script_text.specs.Words.{word_code}
+use Rattle.script_text.specs.declared.word.Reserved.TheVariants as kept
+use Rattle.script_grammar.specs.Tokens.{Tok, Name, Kept, Integer, Text, Fixed}
+use Rattle.script_grammar.specs.Trees.{Lit, Number, Quote, True, False, Null, Undefined, Word, Named, Reserve}
+use Rattle.script_grammar.specs.Rules.{level_of, is_unary}
+
+abbrev pub code : Sign → ℕ
+code Same = 0
+code NotSame = 1
+code AtMost = 2
+code AtLeast = 3
+code And = 4
+code Or = 5
+code OpenRound = 6
+code CloseRound = 7
+code OpenBrace = 8
+code CloseBrace = 9
+code OpenSquare = 10
+code CloseSquare = 11
+code Comma = 12
+code Semicolon = 13
+code Colon = 14
+code Dot = 15
+code Question = 16
+code Assign = 17
+code Less = 18
+code Greater = 19
+code Plus = 20
+code Minus = 21
+code Star = 22
+code Percent = 23
+code Not = 24
+
+abbrev pub fixed : Sign → Tok → Option (Unit {0})
+fixed s (Fixed r) = if code s == code r then Some tt else None
+fixed s _ = None
+
+abbrev pub kept_as : Reserved → Tok → Option (Unit {0})
+kept_as w (Kept r) = if word_code w == word_code r then Some tt else None
+kept_as w _ = None
+
+abbrev pub name_of : Tok → Option (ℕ × List ℕ)
+name_of (Name at bytes) = Some (at, bytes)
+name_of _ = None
+
+abbrev pub text_of : Tok → Option (List ℕ)
+text_of (Text bytes) = Some bytes
+text_of _ = None
+
+abbrev pub word_of : Tok → Option Word
+word_of (Name at bytes) = Some (Named at bytes)
+word_of (Kept r) = Some (Reserve r)
+word_of _ = None
+
+abbrev pub lit_of : Tok → Option Lit
+lit_of (Integer n) = Some (Number n)
+lit_of (Text bytes) = Some (Quote bytes)
+lit_of (Kept kept.True) = Some True
+lit_of (Kept kept.False) = Some False
+lit_of (Kept kept.Null) = Some Null
+lit_of (Kept kept.Undefined) = Some Undefined
+lit_of _ = None
+
+abbrev pub unary_of : Tok → Option Sign
+unary_of (Fixed s) = if is_unary s then Some s else None
+unary_of _ = None
+
+abbrev pub link_of : ℕ → Tok → Option Sign
+link_of k (Fixed s) = if level_of s == k then Some s else None
+link_of k _ = None
+
+abbrev pub is_some : {A : Type 0} → Option A → Bool
+is_some None = false
+is_some (Some a) = true
+
+abbrev pub is : Sign → Tok → Bool
+is s t = is_some (fixed s t)
+
+-- what an atom may begin with
+pub data AtomForm : Type 0 where
+  RoundForm ListForm ObjectForm VarForm OtherForm : AtomForm
+
+abbrev pub atom_form : Option Tok → AtomForm
+atom_form (Some (Fixed OpenRound)) = RoundForm
+atom_form (Some (Fixed OpenSquare)) = ListForm
+atom_form (Some (Fixed OpenBrace)) = ObjectForm
+atom_form (Some (Name at bytes)) = VarForm
+atom_form _ = OtherForm
+
+pub data PropForm : Type 0 where
+  NameForm QuotedForm WordForm : PropForm
+
+abbrev pub prop_form : Option Tok → PropForm
+prop_form (Some (Name at bytes)) = NameForm
+prop_form (Some (Text bytes)) = QuotedForm
+prop_form _ = WordForm
+
+pub data StmtForm : Type 0 where
+  BlockForm EmptyForm IfForm ReturnForm ThrowForm DeleteForm ExprForm : StmtForm
+
+abbrev pub stmt_form : Option Tok → StmtForm
+stmt_form (Some (Fixed OpenBrace)) = BlockForm
+stmt_form (Some (Fixed Semicolon)) = EmptyForm
+stmt_form (Some (Kept kept.If)) = IfForm
+stmt_form (Some (Kept kept.Return)) = ReturnForm
+stmt_form (Some (Kept kept.Throw)) = ThrowForm
+stmt_form (Some (Kept kept.Delete)) = DeleteForm
+stmt_form _ = ExprForm
+
+pub data ItemForm : Type 0 where
+  ConstForm LetForm PlainForm : ItemForm
+
+abbrev pub item_form : Option Tok → ItemForm
+item_form (Some (Kept kept.Const)) = ConstForm
+item_form (Some (Kept kept.Let)) = LetForm
+item_form _ = PlainForm
+
+-- the next token is this sign, this word
+abbrev pub sees : Sign → Option Tok → Bool
+sees s None = false
+sees s (Some t) = is_some (fixed s t)
+
+abbrev pub sees_word : Reserved → Option Tok → Bool
+sees_word w None = false
+sees_word w (Some t) = is_some (kept_as w t)
+
+abbrev pub sees_unary : Option Tok → Bool
+sees_unary None = false
+sees_unary (Some t) = is_some (unary_of t)
+
+abbrev pub begins_suffix : Tok → Bool
+begins_suffix (Fixed Dot) = true
+begins_suffix (Fixed OpenSquare) = true
+begins_suffix _ = false
+
+abbrev pub begins_link : ℕ → Tok → Bool
+begins_link k t = is_some (link_of k t)
+
+abbrev pub in_block : Tok → Bool
+in_block (Fixed CloseBrace) = false
+in_block _ = true

@@ -1,0 +1,4 @@
+pub mod Signs
+pub mod Words
+pub mod Texts
+pub mod Lexical

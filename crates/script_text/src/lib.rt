@@ -1,0 +1,11 @@
+//! What a script is made of: signs, words that are no names, and tokens; in `specs/` what bytes spell
+//! which tokens, and the grammar over them.
+#![tactic(auto)]
+
+mod sign;
+mod token;
+mod word;
+
+pub use sign::{SIGNS, Sign, sign_at};
+pub use token::{Cause, Inside, Kind, LexFault, Piece, Token};
+pub use word::{RESERVED, Reserved, reserved_of};

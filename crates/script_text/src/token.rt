@@ -1,0 +1,94 @@
+//! Tokens and what may be wrong with the bytes of a script.
+
+use crate::sign::Sign;
+use crate::word::Reserved;
+use std::alloc::{AllocError, AllocFailed};
+use thiserror::Error;
+
+/// What a token is.
+#[derive(Clone, Copy, Debug, Drop, PartialEq, Eq)]
+pub enum Kind {
+    /// A word that may be a name.
+    Name,
+    /// A word that is no name.
+    Reserved(Reserved),
+    /// An integer, of at most 2^53 - 1.
+    Integer(u64),
+    /// A text between quotes, its value of at most 2^20 bytes.
+    Text,
+    Sign(Sign),
+}
+
+/// A token: the bytes of the source from `start` on and before `end` spell it.
+#[derive(Clone, Copy, Debug, Drop, PartialEq, Eq)]
+pub struct Token {
+    pub kind: Kind,
+    pub start: usize,
+    pub end: usize,
+}
+
+/// What stands at one place of a source, with its number of bytes.
+#[derive(Clone, Copy, Debug, Drop, PartialEq, Eq)]
+pub enum Piece {
+    /// White space or a comment.
+    Blank(usize),
+    Token(Kind, usize),
+    Wrong(Cause),
+}
+
+/// Why no piece begins at a place.
+#[derive(Clone, Copy, Debug, Drop, PartialEq, Eq)]
+pub enum Cause {
+    Character,
+    Text,
+    Number,
+    Comment,
+}
+
+/// Where the reader of a text stands.
+#[derive(Clone, Copy, Debug, Drop, PartialEq, Eq)]
+pub enum Inside {
+    /// Between two characters.
+    Plain,
+    /// Behind a backslash.
+    Escape,
+    /// Behind `\u`: so many digits are still to come, and those before have this value.
+    Hex(u32, u32),
+}
+
+/// Why bytes are no tokens, with the offset in bytes.
+#[derive(Debug, Drop, Error)]
+pub enum LexFault {
+    #[error("no token begins at {0}")]
+    Character(usize),
+    #[error("the text at {0} is not well formed")]
+    Text(usize),
+    #[error("the number at {0} is not an integer within the limit")]
+    Number(usize),
+    #[error("the comment at {0} is not closed")]
+    Comment(usize),
+    #[error("out of memory")]
+    Memory,
+}
+
+impl From<AllocError> for LexFault {
+    ghost use Rattle.std.specs.Prelude.{◌≡◌};
+    ghost use Rattle.script_text.specs.declared.token.LexFault.TheVariants as fault;
+
+    ghost from_gives = { λ _ e. e ≡ fault.Memory };
+
+    fn from(_error: AllocError) -> LexFault {
+        LexFault::Memory
+    }
+}
+
+impl<T: Drop> From<AllocFailed<T>> for LexFault {
+    ghost use Rattle.std.specs.Prelude.{◌≡◌};
+    ghost use Rattle.script_text.specs.declared.token.LexFault.TheVariants as fault;
+
+    ghost from_gives = { λ _ e. e ≡ fault.Memory };
+
+    fn from(_error: AllocFailed<T>) -> LexFault {
+        LexFault::Memory
+    }
+}
