@@ -1,8 +1,9 @@
 //! Values as JSON data, to be printed.
-ghost use Rattle.std.specs.Prelude.{◌≡◌, IfOk, IsTrue, map, true};
+ghost use Rattle.std.specs.Prelude.{◌≡◌, IfOk, OnOk, IsTrue, map, true};
 ghost use Rattle.std.specs.FinMap.Entries.{is_sorted};
 ghost use Rattle.serde_json.specs.Data.{array, item, no_items};
 ghost use Rattle.serde_json.specs.View.{view, items_view, members_view};
+ghost use Rattle.value_json.specs.Sound.{is_sound, is_sound_key, all_sound};
 ghost use Rattle.value_model.specs.Order.{key_cmp};
 ghost use Rattle.value_text.specs.Printing as spec;
 ghost use Rattle.value_text.specs.Printing.{key_data, val_data};
@@ -16,6 +17,20 @@ use values::{Entry, Field, Key, Node, Val};
 pub fn json_of_key(alloc: Global, key: &Key) -> Result<Value, AllocError>
     ensures { IfOk result (λ j. view j ≡ key_data key.now) }
 {
+    key_json(alloc, key)
+}
+
+/// A value as JSON data: members, pairs and Set members stand in ascending order.
+pub fn json_of_val(alloc: Global, v: &Val) -> Result<Value, AllocError>
+    ensures { IfOk result (λ j. view j ≡ val_data v.now) }
+{
+    val_json(alloc, v)
+}
+
+fn key_json(alloc: Global, key: &Key) -> Result<Value, AllocError>
+    ensures json { IfOk result (λ j. view j ≡ key_data key.now) }
+    ensures sound { OnOk result (IsTrue (is_sound_key key.now)) }
+{
     match key {
         Key::Null => Ok(Value::Null),
         Key::Bool(b) => Ok(Value::Bool(*b)),
@@ -24,13 +39,15 @@ pub fn json_of_key(alloc: Global, key: &Key) -> Result<Value, AllocError>
     }
 }
 
-/// A value as JSON data: members, pairs and Set members stand in ascending order.
+/// The JSON data of a value. A caller learns besides that the value is sound.
 #[cycle(json)]
-pub fn json_of_val(alloc: Global, v: &Val) -> Result<Value, AllocError>
-    ensures { IfOk result (λ j. view j ≡ val_data v.now) }
+#[tactic(auto, using(value_model::specs::Steps::list_of_entries, values::specs::Fits::fields_fit, values::specs::Fits::items_fit, values::specs::Fits::entries_fit, values::specs::Fits::members_fit))]
+pub(crate) fn val_json(alloc: Global, v: &Val) -> Result<Value, AllocError>
+    ensures json { IfOk result (λ j. view j ≡ val_data v.now) }
+    ensures sound { OnOk result (IsTrue (is_sound v.now)) }
 {
     match &v.node {
-        Node::Prim(key) => json_of_key(alloc, key),
+        Node::Prim(key) => key_json(alloc, key),
         Node::Obj(fields) => object_json(alloc, fields),
         Node::List(items) => Ok(Value::Array(items_json(alloc, items)?)),
         Node::Map(entries) => {
@@ -48,7 +65,8 @@ pub fn json_of_val(alloc: Global, v: &Val) -> Result<Value, AllocError>
 #[cycle(json)]
 fn object_json(alloc: Global, fields: &[Field]) -> Result<Value, AllocError>
     requires { IsTrue (is_sorted key_cmp (map of_field fields.now)) }
-    ensures { IfOk result (λ j. view j ≡ spec.object_data (spec.fields_data (of_fields fields.now))) }
+    ensures json { IfOk result (λ j. view j ≡ spec.object_data (spec.fields_data (of_fields fields.now))) }
+    ensures sound { OnOk result (IsTrue (all_sound (of_fields fields.now))) }
 {
     let object = Value::Object(fields_json(alloc, fields)?);
     if is_tagged(fields) {
@@ -61,11 +79,12 @@ fn object_json(alloc: Global, fields: &[Field]) -> Result<Value, AllocError>
 #[cycle(json)]
 fn fields_json(alloc: Global, fields: &[Field]) -> Result<Map<String, Value>, AllocError>
     requires { IsTrue (is_sorted key_cmp (map of_field fields.now)) }
-    ensures { IfOk result (λ m. members_view m.entries ≡ spec.fields_data (of_fields fields.now)) }
+    ensures json { IfOk result (λ m. members_view m.entries ≡ spec.fields_data (of_fields fields.now)) }
+    ensures sound { OnOk result (IsTrue (all_sound (of_fields fields.now))) }
 {
     let mut members = Map::new(alloc);
     for f in fields {
-        let value = json_of_val(alloc, &f.value)?;
+        let value = val_json(alloc, &f.value)?;
         serde_json::put(&mut members, alloc, f.key.as_str(), value)?;
     }
     Ok(members)
@@ -73,34 +92,37 @@ fn fields_json(alloc: Global, fields: &[Field]) -> Result<Map<String, Value>, Al
 
 #[cycle(json)]
 fn items_json(alloc: Global, items: &[Val]) -> Result<Vec<Value>, AllocError>
-    ensures { IfOk result (λ js. items_view js.items ≡ spec.elements_data (of_items items.now)) }
+    ensures json { IfOk result (λ js. items_view js.items ≡ spec.elements_data (of_items items.now)) }
+    ensures sound { OnOk result (IsTrue (all_sound (of_items items.now))) }
 {
     let mut list = Vec::new(alloc);
     for v in items {
-        list.push(json_of_val(alloc, v)?)?;
+        list.push(val_json(alloc, v)?)?;
     }
     Ok(list)
 }
 
 #[cycle(json)]
 fn pairs_json(alloc: Global, entries: &[Entry]) -> Result<Vec<Value>, AllocError>
-    ensures { IfOk result (λ js. items_view js.items ≡ spec.pairs_data (of_entries entries.now)) }
+    ensures json { IfOk result (λ js. items_view js.items ≡ spec.pairs_data (of_entries entries.now)) }
+    ensures sound { OnOk result (IsTrue (all_sound (of_entries entries.now))) }
 {
     let mut list = Vec::new(alloc);
     for e in entries {
-        let key = json_of_key(alloc, &e.key)?;
-        let value = json_of_val(alloc, &e.value)?;
+        let key = key_json(alloc, &e.key)?;
+        let value = val_json(alloc, &e.value)?;
         list.push(pair(alloc, key, value)?)?;
     }
     Ok(list)
 }
 
 fn members_json(alloc: Global, members: &[Key]) -> Result<Vec<Value>, AllocError>
-    ensures { IfOk result (λ js. items_view js.items ≡ spec.keys_data (of_members members.now)) }
+    ensures json { IfOk result (λ js. items_view js.items ≡ spec.keys_data (of_members members.now)) }
+    ensures sound { OnOk result (IsTrue (all_sound (of_members members.now))) }
 {
     let mut list = Vec::new(alloc);
     for k in members {
-        list.push(json_of_key(alloc, k)?)?;
+        list.push(key_json(alloc, k)?)?;
     }
     Ok(list)
 }
