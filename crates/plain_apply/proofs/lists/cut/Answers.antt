@@ -1,0 +1,10 @@
+use Rattle.std.proofs.Common.{◌≡◌, length, false, arith}
+use Rattle.std.proofs.lemmas.Bool.Decides.{nat_tests}
+use Rattle.std.specs.Prelude.{nat_lt}
+use Rattle.plain_apply.specs.Items.{length_items, take_items}
+use Rattle.plain_apply.proofs.lists.cut.Goals as goal
+
+pub returns : goal.returns
+returns c =
+    let within : nat_lt (length c.args.items.items) c.args.i ≡ false = grind (arith, nat_tests) in
+    rw (length_items c.args.items.items, within, c.truncate.ensures.items, take_items)

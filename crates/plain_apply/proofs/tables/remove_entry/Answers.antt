@@ -1,0 +1,15 @@
+use Rattle.std.proofs.Common.{sym}
+use Rattle.value_model.specs.Search.{remove_found}
+use Rattle.values.specs.Seen.{of_entry}
+use Rattle.plain_apply.specs.Without.{without_absent}
+use Rattle.plain_apply.proofs.tables.remove_entry.Goals as goal
+
+pub returns-in-Ok : goal.returns-in-Ok
+returns-in-Ok c =
+    let place = rw c.deref.ensures.value at c.in-Ok.ensures in
+    rw c.remove.ensures.items (remove_found of_entry c.args.key.now c.args.entries.now.items c.in-Ok.at c.remove.result place.past place.in_range (place.same c.remove.result) c.requires)
+
+pub returns-in-Err : goal.returns-in-Err
+returns-in-Err c =
+    let place = rw c.deref.ensures.value at c.in-Err.ensures in
+    sym (without_absent of_entry c.args.key.now c.args.entries.now.items c.in-Err.field-0 place c.requires)

@@ -1,0 +1,5 @@
+pub mod Gives
+pub mod Last
+pub mod Without
+pub mod Items
+pub mod Down
