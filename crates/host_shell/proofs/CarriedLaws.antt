@@ -1,6 +1,6 @@
 -- From a sound machine on, the patches of every answer carry the state there and back.
-use Rattle.std.proofs.Common.{◌≡◌, ℕ, List, [], ◌∷◌, refl, subst, sym, Bool, true, false, cond}
-use Rattle.std.specs.Prelude.{IsTrue, Option, Some, None, option_and_then, Result, Ok, Err, if◌then◌else◌}
+use Rattle.std.proofs.Common.{◌≡◌, ℕ, List, [], ◌∷◌, refl, subst, Bool, true, false, cond}
+use Rattle.std.specs.Prelude.{IsTrue, Option, Some, None, Result, Ok, Err}
 use Rattle.serde_json.specs.Data.{Data}
 use Rattle.serde_json.specs.Find.{as_array}
 use Rattle.value_text.specs.declared.why.JsonWhy.{JsonWhy}
@@ -11,13 +11,13 @@ use Rattle.plain_values.specs.declared.command.Command.{Command}
 use Rattle.plain_values.specs.declared.command.Command.TheVariants as command
 use Rattle.plain_values.specs.declared.refusal.Refusal.{Refusal}
 use Rattle.plain_values.specs.declared.refusal.Refusal.TheVariants as refusal
-use Rattle.host_machine.specs.Carries.{IsSound, Carries}
+use Rattle.host_machine.specs.Carries.{IsSound}
 use Rattle.host_machine.specs.Flat.{is_built, are_flat}
-use Rattle.host_machine.specs.Machine.{Machine, first_machine, step}
+use Rattle.host_machine.specs.Machine.{Machine, first_machine}
 use Rattle.host_machine.proofs.CarryLaws.{IsCarried, step_carried}
 use Rattle.host_protocol.proofs.FormLaws.{apply_flat, patches_flat}
 use Rattle.line_text.specs.Commands.{are_flat_if, apply_in, with_patches, of_form, of_json, is_long_line, command_of}
-use Rattle.stream_run.specs.Lines.{is_blank}
+use Rattle.stream_run.specs.Lines.{is_blank, lines}
 use Rattle.stream_run.specs.Runs.{answer, answer_to, machine_after}
 use Rattle.host_shell.specs.Carried.{AllCarry}
 
@@ -60,9 +60,12 @@ unfolding machine_after
 after_sound m line s = after_at m line (is_blank line) s
 
 -- ---- all of them
-pub all_carry : (m : Machine) (ls : List (List ℕ)) → IsSound m.state → AllCarry m ls
+all_carry : (m : Machine) (ls : List (List ℕ)) → IsSound m.state → AllCarry m ls
 all_carry m [] s = cc
 all_carry m (l ∷ ls) s = ((answer_carried m l s).carries, all_carry (machine_after m l) ls (after_sound m l s))
+
+pub lines_carry : (m : Machine) → IsSound m.state → (stream : List ℕ) → AllCarry m (lines stream)
+lines_carry m s stream = all_carry m (lines stream) s
 
 pub first_sound : IsSound first_machine.state
 first_sound = record { flat = refl; ascending = refl }

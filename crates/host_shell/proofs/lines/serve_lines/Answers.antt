@@ -2,6 +2,7 @@ use Rattle.std.proofs.Common.{◌≡◌, ◌≤◌, ◌<◌, ◌+◌, ◌-◌, �
 use Rattle.std.proofs.KnownBytes.{Consumes-nil, Consumes-trans}
 use Rattle.std.proofs.lemmas.List.{length-append, length-drop, length-take-le}
 use Rattle.host_shell.proofs.AtLaws.{at_start}
+use Rattle.host_shell.proofs.CarriedLaws.{lines_carry}
 use Rattle.host_shell.proofs.ServeLaws.{ran_unread, ran_overrun, ran_halted}
 use Rattle.host_shell.proofs.lines.serve_lines.Goals as goal
 
@@ -73,3 +74,15 @@ loop-count-preserved g c =
       read = search rules;
       later = search rules;
     }
+
+pub returns-in-Err-clause-patches : goal.returns-in-Err-clause-patches
+returns-in-Err-clause-patches g c = lines_carry c.args.host.machine
+
+pub returns-then-count-eq0-clause-patches : goal.returns-then-count-eq0-clause-patches
+returns-then-count-eq0-clause-patches g c = lines_carry c.args.host.machine
+
+pub returns-then-total-count-gt-MAX_STREAM-clause-patches : goal.returns-then-total-count-gt-MAX_STREAM-clause-patches
+returns-then-total-count-gt-MAX_STREAM-clause-patches g c = lines_carry c.args.host.machine
+
+pub returns-in-Err-feed-clause-patches : goal.returns-in-Err-feed-clause-patches
+returns-in-Err-feed-clause-patches g c = lines_carry c.args.host.machine
