@@ -2,13 +2,13 @@
 use Rattle.std.proofs.Common.{◌≡◌, ◌≢◌, ℕ, zero, suc, ◌+◌, ◌-◌, ◌<◌, ◌≤◌, Bool, true, false, List, [], ◌∷◌, ◌++◌, length, drop, map, Option, Some, None, Ok, Err, refl, sym, ap, subst, ◌∙◌, arith, append_assoc}
 use Rattle.std.specs.Prelude.{if◌then◌else◌}
 use Rattle.script_text.specs.declared.sign.Sign.{Sign}
-use Rattle.script_text.specs.declared.sign.Sign.TheVariants.{OpenRound, OpenBrace, CloseBrace, OpenSquare, CloseSquare, Comma, Question}
+use Rattle.script_text.specs.declared.sign.Sign.TheVariants.{OpenRound, OpenBrace, CloseBrace, OpenSquare, CloseSquare, Comma, Colon, Question}
 use Rattle.script_text.specs.declared.token.Token.{Token}
 use Rattle.script_grammar.specs.Tokens.{Tok, Name, Kept, Integer, Text, Fixed, Other, Toks}
-use Rattle.script_grammar.specs.Trees.{Ex, Unary, Member, Links, NoLinks, ThenLink, Elems, NoElems, LastElem, ThenElem, Props, NoProps, LastProp, ThenProp, Suffixes, NoSuffixes, ThenSuffix}
+use Rattle.script_grammar.specs.Trees.{Ex, Unary, Choice, Member, Links, NoLinks, ThenLink, Elems, NoElems, LastElem, ThenElem, Props, NoProps, LastProp, ThenProp, Suffixes, NoSuffixes, ThenSuffix}
 use Rattle.script_parser.specs.Steps.{Unexpected, TooNested, Outcome, Parser, and_then, ◌>>=◌, pure, take as read, too_deep, first, look, many_by, Why}
 use Rattle.script_parser.specs.Tests.{fixed, name_of, unary_of, link_of, begins_link, is_some, sees, sees_unary, atom_form, RoundForm, ListForm, ObjectForm, VarForm, OtherForm}
-use Rattle.script_parser.specs.Parser.{Below, opened, comma_by, elems, props, prop, member, suffixes, choice_by, rounded, listed, objected, named, literal, atom_by, atom, index, dot, suffix, post, unary, chain, link, then_link, links, choice, expr, chained, below}
+use Rattle.script_parser.specs.Parser.{Below, expect, opened, comma_by, elems, props, prop, member, suffixes, choice_by, rounded, listed, objected, named, literal, atom_by, atom, index, dot, suffix, post, unary, chain, link, then_link, links, choice, expr, chained, below}
 use Rattle.script_parser.proofs.Tests.{of_fixed}
 use Rattle.script_parser.proofs.Accept.{under, goods_under, chain_good}
 use Rattle.script_parser.proofs.Expressions.{elems_is, props_is, suffixes_is}
@@ -19,6 +19,7 @@ use Rattle.script_tree.specs.declared.Expr.{Expr}
 use Rattle.script_tree.specs.View.{view, chain_of, links_of, member_of, suffix_of, suffixes_of, prop_of, elems_of, props_of}
 use Rattle.js_parse.specs.Next.{made, linked}
 use Rattle.js_parse.specs.Reading.{toks}
+use Rattle.js_parse.specs.Nests.{branches_rule}
 use Rattle.js_parse.specs.Lists.{links_before, onto_links, suffix_view, one_suffix, suffix_next, suffixes_before, onto_suffixes, elems_before, onto_elems, prop_view, one_prop, props_before, onto_props}
 use Rattle.js_parse.proofs.Seen.{read_some, sign_read}
 
@@ -304,5 +305,28 @@ props_fault d ts x found h c = let whole : props (under d) ts ≡ Err x = props_
 pub choice_deep : (d : ℕ) (c : Ex) (ts : Toks) → d ≡ 0 → sees Question (first ts) ≡ true → look (λ t. choice_by (below d) c (sees Question t)) ts ≡ Err (TooNested, ts)
 choice_deep d c ts e h = rw h (deep (fixed Question) (choice c) d ts tt e (made_sign Question ts h))
 
-pub choice_in : (d : ℕ) (c : Ex) (ts : Toks) → d ≢ 0 → sees Question (first ts) ≡ true → look (λ t. choice_by (below d) c (sees Question t)) ts ≡ choice c (under (d - 1)) ts
-choice_in d c ts e h = rw h (within (fixed Question) (choice c) d ts e)
+-- a choice by its branches
+choice_split : (c : Ex) (b : Below) (ts : Toks) → choice c b ts ≡ and_then (branches_rule b ts) (λ p. pure (Choice c p.0 p.1))
+choice_split c b ts = one (expect Question ts)
+  where
+    three : (x : Ex) (out : Outcome Ex) → and_then out (λ y. pure (Choice c x y)) ≡ and_then (and_then out (λ y. pure (x, y))) (λ p. pure (Choice c p.0 p.1))
+    three x (Ok q) = refl
+    three x (Err e) = refl
+
+    two : (x : Ex) (out : Outcome (Unit {0})) → and_then out (λ _. b.expr >>= λ y. pure (Choice c x y)) ≡ and_then (and_then out (λ _. b.expr >>= λ y. pure (x, y))) (λ p. pure (Choice c p.0 p.1))
+    two x (Ok q) = three x (b.expr q.1)
+    two x (Err e) = refl
+
+    half : (out : Outcome Ex) → and_then out (λ x. expect Colon >>= λ _. b.expr >>= λ y. pure (Choice c x y)) ≡ and_then (and_then out (λ x. expect Colon >>= λ _. b.expr >>= λ y. pure (x, y))) (λ p. pure (Choice c p.0 p.1))
+    half (Ok q) = two q.0 (expect Colon q.1)
+    half (Err e) = refl
+
+    one : (out : Outcome (Unit {0})) → and_then out (λ _. b.expr >>= λ x. expect Colon >>= λ _. b.expr >>= λ y. pure (Choice c x y)) ≡ and_then (and_then out (λ _. b.expr >>= λ x. expect Colon >>= λ _. b.expr >>= λ y. pure (x, y))) (λ p. pure (Choice c p.0 p.1))
+    one (Ok q) = half (b.expr q.1)
+    one (Err e) = refl
+
+pub choice_in : (d : ℕ) (c : Ex) (ts : Toks) → d ≢ 0 → sees Question (first ts) ≡ true → look (λ t. choice_by (below d) c (sees Question t)) ts ≡ and_then (branches_rule (under (d - 1)) ts) (λ p. pure (Choice c p.0 p.1))
+choice_in d c ts e h = rw h (within (fixed Question) (choice c) d ts e) ∙ choice_split c (under (d - 1)) ts
+
+pub choice_no : (d : ℕ) (c : Ex) (ts : Toks) → sees Question (first ts) ≡ false → look (λ t. choice_by (below d) c (sees Question t)) ts ≡ Ok (c, ts)
+choice_no d c ts h = rw h refl

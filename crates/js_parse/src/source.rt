@@ -8,11 +8,12 @@ ghost use Rattle.script_parser.specs.Steps.{first, take};
 ghost use Rattle.script_parser.specs.Tests.{fixed, kept_as, name_of, word_of, unary_of, is_some, sees, sees_word};
 ghost use Rattle.script_grammar.specs.Rules.{is_unary, level_of};
 ghost use Rattle.js_parse.specs.Reading.{toks, Fails, Reads};
-ghost use Rattle.script_tree.specs.View.{name_pair, word_of as word_view};
+ghost use Rattle.script_tree.specs.View.{name_pair, word_of as word_view, view};
+ghost use Rattle.script_parser.specs.Parser.{literal as literal_rule};
 ghost use Rattle.js_parse.specs.Lists.{suffix_next, Forward};
 
 use script_text::{Kind, Reserved, Sign, Token};
-use script_tree::{Label, Name};
+use script_tree::{Expr, Label, Name};
 use sqlite_items::Items;
 use std::alloc::{AllocError, AllocFailed, Global};
 
@@ -230,6 +231,13 @@ impl Source<'_> {
             Some(word) => Ok((Label::Reserved(word), at + 1)),
             None => Err(Stop::Unexpected(at)),
         }
+    }
+
+    pub(crate) fn literal(&self, alloc: Global, at: usize) -> Result<(Expr, usize), Stop>
+        ensures is { Reads view literal_rule self.now.bytes.now self.now.tokens.now at result }
+        ensures forward { Forward at result }
+    {
+        Err(Stop::Memory)
     }
 }
 
