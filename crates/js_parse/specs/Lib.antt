@@ -1,4 +1,0 @@
-pub mod Lists
-pub mod Nests
-pub mod Next
-pub mod Reading
