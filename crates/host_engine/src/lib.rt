@@ -5,6 +5,7 @@
 
 mod edits;
 mod host;
+mod name;
 mod pairs;
 mod table;
 

@@ -8,6 +8,7 @@ ghost use Rattle.host_machine.specs.Differences.{patch as patch_of, differences 
 ghost use Rattle.host_engine.specs.Kept.{of_field, number_of};
 ghost use Rattle.host_engine.specs.Pairs.{first_patches};
 
+use crate::name::Name;
 use crate::table::{Field, Table, compare_texts, is_other};
 use plain_values::{Key, Op, Patch, Patches, Path, Safe, Text, Val, key_weight, weight};
 use std::alloc::{AllocError, Global};
@@ -73,7 +74,7 @@ fn push_first(
     ensures order { IfOk result (λ o. o ≡ key_cmp (key.Text old.now.name) (key.Text new.now.name)) }
     ensures patches { IfOk result (λ o. list.new.items ≡ list.old.items ++ first_patches o (of_field old.now) (of_field new.now)) }
 {
-    let order = compare_texts(&old.name, &new.name);
+    let order = compare_texts(old.name.text(), new.name.text());
     match order {
         Ordering::Less => list.push(removing(alloc, &old.name)?)?,
         Ordering::Greater => list.push(setting(alloc, Op::Add, &new.name, new.number)?)?,
@@ -106,22 +107,22 @@ fn push_added(alloc: Global, list: &mut Vec<Patch>, new: &[Field]) -> Result<(),
     Ok(())
 }
 
-fn setting(alloc: Global, op: Op, name: &Text, number: Safe) -> Result<Patch, AllocError>
+fn setting(alloc: Global, op: Op, name: &Name, number: Safe) -> Result<Patch, AllocError>
     ensures { IfOk result (λ p. p ≡ patch_of op (key.Text name.now) (Some (number_of number))) }
 {
     Ok(Patch {
         op,
-        path: path_to(alloc, name)?,
+        path: path_to(alloc, name.text())?,
         value: Some(Val::primitive(Key::Int(number))),
     })
 }
 
-fn removing(alloc: Global, name: &Text) -> Result<Patch, AllocError>
+fn removing(alloc: Global, name: &Name) -> Result<Patch, AllocError>
     ensures { IfOk result (λ p. p ≡ patch_of op.Remove (key.Text name.now) None) }
 {
     Ok(Patch {
         op: Op::Remove,
-        path: path_to(alloc, name)?,
+        path: path_to(alloc, name.text())?,
         value: None,
     })
 }

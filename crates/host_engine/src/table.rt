@@ -12,6 +12,7 @@ ghost use Rattle.values.specs.Seen.{of_field as of_object_field};
 ghost use Rattle.host_engine.specs.Kept.{of_field, number_of, state_of};
 
 use crate::edits::integer_in;
+use crate::name::Name;
 use plain_values::{Field as ObjField, Node, Safe, Text, Val};
 use std::alloc::{AllocError, Global};
 use std::cmp::Ordering;
@@ -20,7 +21,7 @@ use std::marker::Model;
 /// An integer under its name.
 #[derive(Drop)]
 pub struct Field {
-    pub name: Text,
+    pub name: Name,
     pub number: Safe,
 }
 
@@ -99,7 +100,7 @@ impl Table {
     }
 
     /// Sets a name to a number, and says whether that changed the table.
-    pub fn set(&mut self, name: Text, number: Safe) -> Result<bool, AllocError>
+    pub fn set(&mut self, name: Name, number: Safe) -> Result<bool, AllocError>
         ensures table { IfOk result (λ _. self.new ≡ put key_cmp (key.Text name) (prim (key.Int number)) self.old) }
         ensures wrote { IfOk result (λ w. w ≡ not (same_table self.old self.new)) }
     {
@@ -125,7 +126,7 @@ fn fields_of(alloc: Global, fields: &[ObjField]) -> Result<Vec<Field>, AllocErro
             unreachable!()
         };
         out.push(Field {
-            name: f.key.copy(alloc)?,
+            name: Name::of(alloc, f.key.copy(alloc)?)?,
             number,
         })?;
     }
@@ -138,7 +139,7 @@ fn copy_fields(alloc: Global, fields: &Vec<Field>) -> Result<Vec<Field>, AllocEr
     let mut out = Vec::with_capacity(alloc, fields.len())?;
     for f in fields {
         out.push(Field {
-            name: f.name.copy(alloc)?,
+            name: f.name.share()?,
             number: f.number,
         })?;
     }
@@ -150,7 +151,7 @@ fn fields_weight(fields: &[Field]) -> u64
 {
     let mut total: u64 = 0;
     for f in fields {
-        total = capped(total, f.name.as_str().len() as u64);
+        total = capped(total, f.name.text().as_str().len() as u64);
     }
     total
 }
@@ -163,13 +164,13 @@ fn capped(total: u64, bytes: u64) -> u64
     total.saturating_add(bytes + 2).min(1 << 63)
 }
 
-fn put_field(fields: &mut Vec<Field>, name: Text, number: Safe) -> Result<bool, AllocError>
+fn put_field(fields: &mut Vec<Field>, name: Name, number: Safe) -> Result<bool, AllocError>
     requires { IsTrue (is_sorted key_cmp (map of_field fields.old.items)) }
     ensures table { IfOk result (λ _. map of_field fields.new.items ≡ put key_cmp (key.Text name) (prim (key.Int number)) (map of_field fields.old.items)) }
     ensures wrote { IfOk result (λ w. w ≡ not (same_table (map of_field fields.old.items) (map of_field fields.new.items))) }
     ensures sorted { IsTrue (is_sorted key_cmp (map of_field fields.new.items)) }
 {
-    match place_of(fields, &name) {
+    match place_of(fields, name.text()) {
         Ok(at) => {
             let wrote = is_other(fields[at].number, number);
             fields[at] = Field { name, number };
@@ -214,7 +215,7 @@ fn place_of(fields: &[Field], name: &Text) -> Result<usize, usize>
     requires { IsTrue (is_sorted key_cmp (map of_field fields.now)) }
     ensures { IsPlace of_field (key.Text name.now) fields.now result }
 {
-    fields.binary_search_by(|f| compare_texts(&f.name, name))
+    fields.binary_search_by(|f| compare_texts(f.name.text(), name))
 }
 
 pub fn compare_texts(a: &Text, b: &Text) -> Ordering

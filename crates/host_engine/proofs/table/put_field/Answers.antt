@@ -13,20 +13,20 @@ use Rattle.host_engine.proofs.table.put_field.Goals as goal
 
 pub returns-in-Ok-clause-table : goal.returns-in-Ok-clause-table
 returns-in-Ok-clause-table c =
-    let place = rw c.deref.ensures.value at c.in-Ok.ensures in
+    let place = rw (c.deref.ensures.value, c.text.ensures) at c.in-Ok.ensures in
     let new : Field = record { name = c.args.name; number = c.args.number } in
     put_found of_field (key.Text c.args.name) c.args.fields.now.items c.in-Ok.at new new place.past place.in_range (place.same new) (key_exact _ _ (place.same new))
 
 pub returns-in-Ok-clause-sorted : goal.returns-in-Ok-clause-sorted
 returns-in-Ok-clause-sorted c =
-    let place = rw c.deref.ensures.value at c.in-Ok.ensures in
+    let place = rw (c.deref.ensures.value, c.text.ensures) at c.in-Ok.ensures in
     let new : Field = record { name = c.args.name; number = c.args.number } in
     rw (put_found of_field (key.Text c.args.name) c.args.fields.now.items c.in-Ok.at new new place.past place.in_range (place.same new) (key_exact _ _ (place.same new)))
     (put_ascends (key.Text c.args.name) (prim (key.Int c.args.number)) (map of_field c.args.fields.now.items) c.requires)
 
 pub returns-in-Ok-clause-wrote : goal.returns-in-Ok-clause-wrote
 returns-in-Ok-clause-wrote c =
-    let place = rw c.deref.ensures.value at c.in-Ok.ensures in
+    let place = rw (c.deref.ensures.value, c.text.ensures) at c.in-Ok.ensures in
     let old = c.index.result.now in
     let new : Field = record { name = c.args.name; number = c.args.number } in
     rw (same_set of_field c.args.fields.now.items c.in-Ok.at old new (fields_primitive c.args.fields.now.items) place.in_range (key_exact _ _ (place.same old)))
@@ -34,13 +34,13 @@ returns-in-Ok-clause-wrote c =
 
 pub returns-in_ok-insert-in-Err-clause-table : goal.returns-in_ok-insert-in-Err-clause-table
 returns-in_ok-insert-in-Err-clause-table c =
-    let place = rw c.deref.ensures.value at c.in-Err.ensures in
+    let place = rw (c.deref.ensures.value, c.text.ensures) at c.in-Err.ensures in
     let new : Field = record { name = c.args.name; number = c.args.number } in
     rw c.in_ok-insert-in-Err.ensures.items (put_gap of_field (key.Text c.args.name) c.args.fields.now.items c.in-Err.at new new place.past place.in_range (place.above new) refl)
 
 pub returns-in_ok-insert-in-Err-clause-sorted : goal.returns-in_ok-insert-in-Err-clause-sorted
 returns-in_ok-insert-in-Err-clause-sorted c =
-    let place = rw c.deref.ensures.value at c.in-Err.ensures in
+    let place = rw (c.deref.ensures.value, c.text.ensures) at c.in-Err.ensures in
     let new : Field = record { name = c.args.name; number = c.args.number } in
     rw (c.in_ok-insert-in-Err.ensures.items, put_gap of_field (key.Text c.args.name) c.args.fields.now.items c.in-Err.at new new place.past place.in_range (place.above new) refl)
     (put_ascends (key.Text c.args.name) (prim (key.Int c.args.number)) (map of_field c.args.fields.now.items) c.requires)
