@@ -1,4 +1,4 @@
-ghost use Rattle.std.specs.Prelude.{◌≡◌, ◌≤◌, length};
+ghost use Rattle.std.specs.Prelude.{◌≡◌, ◌≤◌, [], length};
 ghost use Rattle.host_shell.specs.Status.{status_code, status_text};
 
 use std::marker::Model;
@@ -78,7 +78,9 @@ impl Model for StatusLine {
 
 impl StatusLine {
     /// An empty line.
-    pub fn new() -> StatusLine {
+    pub fn new() -> StatusLine
+        ensures { result ≡ [] }
+    {
         StatusLine {
             bytes: [0; 96],
             len: 0,
