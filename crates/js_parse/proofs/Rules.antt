@@ -5,7 +5,7 @@ use Rattle.script_text.specs.declared.sign.Sign.{Sign}
 use Rattle.script_text.specs.declared.sign.Sign.TheVariants.{OpenRound, OpenBrace, CloseBrace, OpenSquare, CloseSquare, Comma, Colon, Question}
 use Rattle.script_text.specs.declared.token.Token.{Token}
 use Rattle.script_grammar.specs.Tokens.{Tok, Name, Kept, Integer, Text, Fixed, Other, Toks}
-use Rattle.script_grammar.specs.Trees.{Ex, Unary, Choice, Member, Links, NoLinks, ThenLink, Elems, NoElems, LastElem, ThenElem, Props, NoProps, LastProp, ThenProp, Suffixes, NoSuffixes, ThenSuffix}
+use Rattle.script_grammar.specs.Trees.{Ex, Object, Unary, Choice, Member, Links, NoLinks, ThenLink, Elems, NoElems, LastElem, ThenElem, Props, NoProps, LastProp, ThenProp, Suffixes, NoSuffixes, ThenSuffix}
 use Rattle.script_parser.specs.Steps.{Unexpected, TooNested, Outcome, Parser, and_then, ◌>>=◌, pure, take as read, too_deep, first, look, many_by, Why}
 use Rattle.script_parser.specs.Tests.{fixed, name_of, unary_of, link_of, begins_link, is_some, sees, sees_unary, atom_form, RoundForm, ListForm, ObjectForm, VarForm, OtherForm}
 use Rattle.script_parser.specs.Parser.{Below, expect, opened, comma_by, elems, props, prop, member, suffixes, choice_by, rounded, listed, objected, named, literal, atom_by, atom, index, dot, suffix, post, unary, chain, link, then_link, links, choice, expr, chained, below}
@@ -17,11 +17,11 @@ use Rattle.script_tree.specs.declared.Label.{Label}
 use Rattle.script_tree.specs.declared.Access.{Access}
 use Rattle.script_tree.specs.declared.Expr.{Expr}
 use Rattle.script_tree.specs.View.{view, chain_of, links_of, member_of, suffix_of, suffixes_of, prop_of, elems_of, props_of}
-use Rattle.js_parse.specs.Next.{made, linked}
+use Rattle.js_parse.specs.Next.{made, linked, signed}
 use Rattle.js_parse.specs.Reading.{toks}
-use Rattle.js_parse.specs.Nests.{branches_rule}
-use Rattle.js_parse.specs.Lists.{links_before, onto_links, suffix_view, one_suffix, suffix_next, suffixes_before, onto_suffixes, elems_before, onto_elems, prop_view, one_prop, props_before, onto_props}
-use Rattle.js_parse.proofs.Seen.{read_some, sign_read}
+use Rattle.js_parse.specs.Nests.{both, branches_rule}
+use Rattle.js_parse.specs.Lists.{links_before, onto_links, suffix_view, one_suffix, suffix_next, suffixes_before, onto_suffixes, elems_before, onto_elems, prop_view, one_prop, props_before, onto_props, one_link, props_at, prop_at, link_at, links_at}
+use Rattle.js_parse.proofs.Seen.{read_some, read_none, sign_read}
 
 -- the next token is this sign
 seen_sign : (s : Sign) (ts : Toks) → sees s (first ts) ≡ true → (x : Toks) × (ts ≡ Fixed s ∷ x)
@@ -111,13 +111,16 @@ unary_seen : (ts : Toks) (o : Option Sign) → made unary_of (first ts) ≡ o �
 unary_seen [] o h = rw (← h) refl
 unary_seen (t ∷ ts) o h = ap is_some h
 
-pub unary_deep : (d : ℕ) (ts : Toks) (s : Sign) → d ≡ 0 → Some s ≡ made unary_of (first ts) → unary (below d) ts ≡ Err (TooNested, ts)
+pub unary_deep : (d : ℕ) (ts : Toks) (s : Sign) → d ≡ 0 → Some s ≡ signed ts → unary (below d) ts ≡ Err (TooNested, ts)
+unfolding signed
 unary_deep d ts s e h = rw (unary_seen ts (Some s) (sym h)) (deep unary_of _ d ts s e (sym h))
 
-pub unary_sign : (d : ℕ) (bytes : List ℕ) (tokens : List Token) (at : ℕ) (s : Sign) → d ≢ 0 → Some s ≡ made unary_of (first (toks bytes tokens at)) → unary (below d) (toks bytes tokens at) ≡ and_then (unary (below (d - 1)) (toks bytes tokens (at + 1))) (λ e. pure (Unary s e))
+pub unary_sign : (d : ℕ) (bytes : List ℕ) (tokens : List Token) (at : ℕ) (s : Sign) → d ≢ 0 → Some s ≡ signed (toks bytes tokens at) → unary (below d) (toks bytes tokens at) ≡ and_then (unary (below (d - 1)) (toks bytes tokens (at + 1))) (λ e. pure (Unary s e))
+unfolding signed
 unary_sign d bytes tokens at s e h = rw (unary_seen (toks bytes tokens at) (Some s) (sym h)) (within unary_of _ d (toks bytes tokens at) e ∙ rw (read_some unary_of bytes tokens at s (sym h)) refl)
 
-pub unary_post : (d : ℕ) (ts : Toks) → None ≡ made unary_of (first ts) → unary (below d) ts ≡ post (below d) ts
+pub unary_post : (d : ℕ) (ts : Toks) → None ≡ signed ts → unary (below d) ts ≡ post (below d) ts
+unfolding signed
 unary_post d ts h = rw (unary_seen ts None (sym h)) refl
 
 -- ---- chains
@@ -126,10 +129,10 @@ unfolding chain
 chain_none d zero ts e = refl
 chain_none d (suc k) ts e = absurd (omega (arith, e))
 
-pub chain_some : (d k : ℕ) (ts : Toks) → k ≢ 0 → chain (below d) k ts ≡ and_then (chain (below d) (k - 1) ts) (λ a. links (k - 1) (chain (below d) (k - 1)) >>= λ ls. pure (chained (k - 1) a ls))
-unfolding chain
+pub chain_some : (d k : ℕ) (ts : Toks) → k ≢ 0 → chain (below d) k ts ≡ and_then (chain (below d) (k - 1) ts) (λ a. links_at d (k - 1) >>= λ ls. pure (chained (k - 1) a ls))
+unfolding chain links_at
 chain_some d zero ts e = absurd (e refl)
-chain_some d (suc k) ts e = let same : k ≡ suc k - 1 = omega arith in ap (λ (j : ℕ). and_then (chain (below d) j ts) (λ a. links j (chain (below d) j) >>= λ ls. pure (chained j a ls))) same
+chain_some d (suc k) ts e = let same : k ≡ suc k - 1 = omega arith in ap (λ (j : ℕ). and_then (chain (below d) j ts) (λ a. links_at d j >>= λ ls. pure (chained j a ls))) same
 
 pub chained_is : (k : ℕ) (a : Ex) (ls : List (Sign × Expr)) → chained k a (links_before ls NoLinks) ≡ chain_of k a (map (λ (l : Sign × Expr). (l.0, view l.1)) ls)
 chained_is k a [] = refl
@@ -151,8 +154,8 @@ pub links_start : (out : Outcome Links) → onto_links [] out ≡ out
 links_start (Ok q) = refl
 links_start (Err e) = refl
 
-pub links_end : (d k : ℕ) (found : List (Sign × Expr)) (ts : Toks) → k < 6 → None ≡ linked k ts → onto_links found (links k (chain (below d) k) ts) ≡ Ok (links_before found NoLinks, ts)
-unfolding linked
+pub links_end : (d k : ℕ) (found : List (Sign × Expr)) (ts : Toks) → k < 6 → None ≡ linked k ts → onto_links found (links_at d k ts) ≡ Ok (links_before found NoLinks, ts)
+unfolding linked links_at
 links_end d k found [] l h = rw (chain_good d k (omega (arith, l)) [] l) refl
 links_end d k found (t ∷ ts) l h = rw (chain_good d k (omega (arith, l)) (t ∷ ts) l, ← h) refl
 
@@ -161,23 +164,25 @@ nested : {A B C : Type 0} (out : Outcome A) (f : A → B) (g : B → Parser C) �
 nested (Ok q) f g = refl
 nested (Err e) f g = refl
 
-links_go : (d k : ℕ) (bytes : List ℕ) (tokens : List Token) (at : ℕ) (s : Sign) → k < 6 → Some s ≡ linked k (toks bytes tokens at)
-    → links k (chain (below d) k) (toks bytes tokens at) ≡ and_then (chain (below d) k (toks bytes tokens (at + 1))) (λ e. links k (chain (below d) k) >>= λ ls. pure (ThenLink s e ls))
-unfolding linked
-links_go d k bytes tokens at s l h = chain_good d k (omega (arith, l)) (toks bytes tokens at) l ∙ by (first (toks bytes tokens at)) h
-    ∙ rw (read_some (link_of k) bytes tokens at s (sym h)) (nested (chain (below d) k (toks bytes tokens (at + 1))) (λ e. (s, e)) (λ x. links k (chain (below d) k) >>= λ ls. pure (then_link x ls)))
-  where
-    by : (c : Option Tok) → Some s ≡ made (link_of k) c → many_by (begins_link k) (link k (chain (below d) k)) NoLinks then_link (links k (chain (below d) k)) c (toks bytes tokens at) ≡ (link k (chain (below d) k) >>= λ x. links k (chain (below d) k) >>= λ ls. pure (then_link x ls)) (toks bytes tokens at)
-    by None h = absurd cc
-    by (Some t) h = rw (← h) refl
+links_turn : (d k : ℕ) (s : Sign) (ts : Toks) → k < 6 → Some s ≡ linked k ts → links_at d k ts ≡ and_then (link_at d k ts) (λ x. links_at d k >>= λ ls. pure (then_link x ls))
+unfolding linked links_at link_at
+links_turn d k s [] l h = absurd cc
+links_turn d k s (t ∷ ts) l h = chain_good d k (omega (arith, l)) (t ∷ ts) l ∙ rw (← h) refl
 
-pub links_on : (d k : ℕ) (bytes : List ℕ) (tokens : List Token) (at next : ℕ) (s : Sign) (e : Expr) (found : List (Sign × Expr)) → k < 6 → Some s ≡ linked k (toks bytes tokens at) → chain (below d) k (toks bytes tokens (at + 1)) ≡ Ok (view e, toks bytes tokens next)
-    → onto_links found (links k (chain (below d) k) (toks bytes tokens at)) ≡ onto_links (found ++ (s, e) ∷ []) (links k (chain (below d) k) (toks bytes tokens next))
-links_on d k bytes tokens at next s e found l h c = ap (onto_links found) (links_go d k bytes tokens at s l h ∙ rw c refl) ∙ links_more found (s, e) (links k (chain (below d) k) (toks bytes tokens next))
+pub links_on : (d k : ℕ) (ts rest : Toks) (s : Sign) (x : Sign × Expr) (found : List (Sign × Expr)) → k < 6 → Some s ≡ linked k ts → link_at d k ts ≡ Ok (one_link x, rest) → onto_links found (links_at d k ts) ≡ onto_links (found ++ x ∷ []) (links_at d k rest)
+links_on d k ts rest s x found l h c = let whole : links_at d k ts ≡ and_then (links_at d k rest) (λ ls. pure (ThenLink x.0 (view x.1) ls)) = links_turn d k s ts l h ∙ rw c refl in ap (onto_links found) whole ∙ links_more found x (links_at d k rest)
 
-pub links_fault : (d k : ℕ) (bytes : List ℕ) (tokens : List Token) (at : ℕ) (s : Sign) (x : Why × Toks) (found : List (Sign × Expr)) → k < 6 → Some s ≡ linked k (toks bytes tokens at) → chain (below d) k (toks bytes tokens (at + 1)) ≡ Err x
-    → onto_links found (links k (chain (below d) k) (toks bytes tokens at)) ≡ Err x
-links_fault d k bytes tokens at s x found l h c = let whole : links k (chain (below d) k) (toks bytes tokens at) ≡ Err x = links_go d k bytes tokens at s l h ∙ rw c refl in ap (onto_links found) whole
+pub links_fault : (d k : ℕ) (ts : Toks) (s : Sign) (x : Why × Toks) (found : List (Sign × Expr)) → k < 6 → Some s ≡ linked k ts → link_at d k ts ≡ Err x → onto_links found (links_at d k ts) ≡ Err x
+links_fault d k ts s x found l h c = let whole : links_at d k ts ≡ Err x = links_turn d k s ts l h ∙ rw c refl in ap (onto_links found) whole
+
+-- one operator and its right operand
+pub link_some : (d k : ℕ) (bytes : List ℕ) (tokens : List Token) (at : ℕ) (s : Sign) → Some s ≡ linked k (toks bytes tokens at) → link_at d k (toks bytes tokens at) ≡ and_then (chain (below d) k (toks bytes tokens (at + 1))) (λ e. pure (s, e))
+unfolding linked link_at
+link_some d k bytes tokens at s h = rw (read_some (link_of k) bytes tokens at s (sym h)) refl
+
+pub link_none : (d k : ℕ) (ts : Toks) → None ≡ linked k ts → link_at d k ts ≡ Err (Unexpected, ts)
+unfolding linked link_at
+link_none d k ts h = rw (read_none (link_of k) ts (sym h)) refl
 
 -- ---- suffixes
 pub suffix_deep : (d : ℕ) (ts : Toks) → d ≡ 0 → sees OpenSquare (first ts) ≡ true → suffix (below d) ts ≡ Err (TooNested, ts)
@@ -285,21 +290,27 @@ props_ended [] e = refl
 props_ended (f ∷ []) e = refl
 props_ended (f ∷ g ∷ es) e = ap (ThenProp (prop_of (prop_view f))) (props_ended (g ∷ es) e)
 
-pub props_end : (d : ℕ) (found : List (Label × Expr)) (ts : Toks) → sees CloseBrace (first ts) ≡ true → onto_props found (props (under d) ts) ≡ Ok (props_of (map prop_view found) true, ts)
-props_end d found ts h = let whole : props (under d) ts ≡ Ok (NoProps, ts) = props_is d (under d) (goods_under d) ts ∙ rw h refl in ap (onto_props found) whole ∙ ap (λ (ps : Props). Ok (ps, ts)) (props_closed found)
+pub props_end : (d : ℕ) (found : List (Label × Expr)) (ts : Toks) → sees CloseBrace (first ts) ≡ true → onto_props found (props_at d ts) ≡ Ok (props_of (map prop_view found) true, ts)
+unfolding props_at prop_at
+props_end d found ts h = let whole : props_at d ts ≡ Ok (NoProps, ts) = props_is d (under d) (goods_under d) ts ∙ rw h refl in ap (onto_props found) whole ∙ ap (λ (ps : Props). Ok (ps, ts)) (props_closed found)
 
-props_go : (d : ℕ) (ts : Toks) → sees CloseBrace (first ts) ≡ false → props (under d) ts ≡ and_then (prop (under d) ts) (λ a. look (λ c. comma_by LastProp ThenProp a (props (under d)) (sees Comma c)))
+props_go : (d : ℕ) (ts : Toks) → sees CloseBrace (first ts) ≡ false → props_at d ts ≡ and_then (prop_at d ts) (λ a. look (λ c. comma_by LastProp ThenProp a (props_at d) (sees Comma c)))
+unfolding props_at prop_at
 props_go d ts h = props_is d (under d) (goods_under d) ts ∙ rw h refl
 
-pub props_last : (d : ℕ) (ts rest : Toks) (p : Label × Expr) (found : List (Label × Expr)) → sees CloseBrace (first ts) ≡ false → prop (under d) ts ≡ Ok (one_prop p, rest) → sees Comma (first rest) ≡ false → onto_props found (props (under d) ts) ≡ Ok (props_of (map prop_view (found ++ p ∷ [])) false, rest)
-props_last d ts rest p found h c k = let whole : props (under d) ts ≡ Ok (LastProp (one_prop p), rest) = props_go d ts h ∙ rw (c, k) refl in ap (onto_props found) whole ∙ ap (λ (ps : Props). Ok (ps, rest)) (props_ended found p)
+pub props_last : (d : ℕ) (ts rest : Toks) (p : Label × Expr) (found : List (Label × Expr)) → sees CloseBrace (first ts) ≡ false → prop_at d ts ≡ Ok (one_prop p, rest) → sees Comma (first rest) ≡ false → onto_props found (props_at d ts) ≡ Ok (props_of (map prop_view (found ++ p ∷ [])) false, rest)
+props_last d ts rest p found h c k = let whole : props_at d ts ≡ Ok (LastProp (one_prop p), rest) = props_go d ts h ∙ rw (c, k) refl in ap (onto_props found) whole ∙ ap (λ (ps : Props). Ok (ps, rest)) (props_ended found p)
 
-pub props_on : (d : ℕ) (bytes : List ℕ) (tokens : List Token) (ts : Toks) (next : ℕ) (p : Label × Expr) (found : List (Label × Expr)) → sees CloseBrace (first ts) ≡ false → prop (under d) ts ≡ Ok (one_prop p, toks bytes tokens next) → sees Comma (first (toks bytes tokens next)) ≡ true
-    → onto_props found (props (under d) ts) ≡ onto_props (found ++ p ∷ []) (props (under d) (toks bytes tokens (next + 1)))
-props_on d bytes tokens ts next p found h c k = ap (onto_props found) (props_go d ts h ∙ rw (c, k, sign_read Comma bytes tokens next k) refl) ∙ props_more found p (props (under d) (toks bytes tokens (next + 1)))
+pub props_on : (d : ℕ) (bytes : List ℕ) (tokens : List Token) (ts : Toks) (next : ℕ) (p : Label × Expr) (found : List (Label × Expr)) → sees CloseBrace (first ts) ≡ false → prop_at d ts ≡ Ok (one_prop p, toks bytes tokens next) → sees Comma (first (toks bytes tokens next)) ≡ true
+    → onto_props found (props_at d ts) ≡ onto_props (found ++ p ∷ []) (props_at d (toks bytes tokens (next + 1)))
+props_on d bytes tokens ts next p found h c k = ap (onto_props found) (props_go d ts h ∙ rw (c, k, sign_read Comma bytes tokens next k) refl) ∙ props_more found p (props_at d (toks bytes tokens (next + 1)))
 
-pub props_fault : (d : ℕ) (ts : Toks) (x : Why × Toks) (found : List (Label × Expr)) → sees CloseBrace (first ts) ≡ false → prop (under d) ts ≡ Err x → onto_props found (props (under d) ts) ≡ Err x
-props_fault d ts x found h c = let whole : props (under d) ts ≡ Err x = props_go d ts h ∙ rw c refl in ap (onto_props found) whole
+pub props_fault : (d : ℕ) (ts : Toks) (x : Why × Toks) (found : List (Label × Expr)) → sees CloseBrace (first ts) ≡ false → prop_at d ts ≡ Err x → onto_props found (props_at d ts) ≡ Err x
+props_fault d ts x found h c = let whole : props_at d ts ≡ Err x = props_go d ts h ∙ rw c refl in ap (onto_props found) whole
+
+pub object_is : (d : ℕ) (ts : Toks) → objected (under d) ts ≡ and_then (expect OpenBrace ts) (λ _. props_at d >>= λ ps. expect CloseBrace >>= λ _. pure (Object ps))
+unfolding props_at
+object_is d ts = refl
 
 -- ---- choices
 pub choice_deep : (d : ℕ) (c : Ex) (ts : Toks) → d ≡ 0 → sees Question (first ts) ≡ true → look (λ t. choice_by (below d) c (sees Question t)) ts ≡ Err (TooNested, ts)
@@ -309,19 +320,19 @@ choice_deep d c ts e h = rw h (deep (fixed Question) (choice c) d ts tt e (made_
 choice_split : (c : Ex) (b : Below) (ts : Toks) → choice c b ts ≡ and_then (branches_rule b ts) (λ p. pure (Choice c p.0 p.1))
 choice_split c b ts = one (expect Question ts)
   where
-    three : (x : Ex) (out : Outcome Ex) → and_then out (λ y. pure (Choice c x y)) ≡ and_then (and_then out (λ y. pure (x, y))) (λ p. pure (Choice c p.0 p.1))
+    three : (x : Ex) (out : Outcome Ex) → and_then out (λ y. pure (Choice c x y)) ≡ and_then (and_then out (λ y. pure (both x y))) (λ p. pure (Choice c p.0 p.1))
     three x (Ok q) = refl
     three x (Err e) = refl
 
-    two : (x : Ex) (out : Outcome (Unit {0})) → and_then out (λ _. b.expr >>= λ y. pure (Choice c x y)) ≡ and_then (and_then out (λ _. b.expr >>= λ y. pure (x, y))) (λ p. pure (Choice c p.0 p.1))
+    two : (x : Ex) (out : Outcome (Unit {0})) → and_then out (λ _. b.expr >>= λ y. pure (Choice c x y)) ≡ and_then (and_then out (λ _. b.expr >>= λ y. pure (both x y))) (λ p. pure (Choice c p.0 p.1))
     two x (Ok q) = three x (b.expr q.1)
     two x (Err e) = refl
 
-    half : (out : Outcome Ex) → and_then out (λ x. expect Colon >>= λ _. b.expr >>= λ y. pure (Choice c x y)) ≡ and_then (and_then out (λ x. expect Colon >>= λ _. b.expr >>= λ y. pure (x, y))) (λ p. pure (Choice c p.0 p.1))
+    half : (out : Outcome Ex) → and_then out (λ x. expect Colon >>= λ _. b.expr >>= λ y. pure (Choice c x y)) ≡ and_then (and_then out (λ x. expect Colon >>= λ _. b.expr >>= λ y. pure (both x y))) (λ p. pure (Choice c p.0 p.1))
     half (Ok q) = two q.0 (expect Colon q.1)
     half (Err e) = refl
 
-    one : (out : Outcome (Unit {0})) → and_then out (λ _. b.expr >>= λ x. expect Colon >>= λ _. b.expr >>= λ y. pure (Choice c x y)) ≡ and_then (and_then out (λ _. b.expr >>= λ x. expect Colon >>= λ _. b.expr >>= λ y. pure (x, y))) (λ p. pure (Choice c p.0 p.1))
+    one : (out : Outcome (Unit {0})) → and_then out (λ _. b.expr >>= λ x. expect Colon >>= λ _. b.expr >>= λ y. pure (Choice c x y)) ≡ and_then (and_then out (λ _. b.expr >>= λ x. expect Colon >>= λ _. b.expr >>= λ y. pure (both x y))) (λ p. pure (Choice c p.0 p.1))
     one (Ok q) = half (b.expr q.1)
     one (Err e) = refl
 

@@ -12,7 +12,7 @@ use Rattle.script_text.specs.Lexical.{largest}
 use Rattle.script_grammar.specs.Tokens.{Tok, Name, Kept, Integer, Text, Fixed, Other, Toks, bytes_of, text_value, as_text, seen_as, seen, seen_from}
 use Rattle.script_parser.specs.Steps.{Unexpected, Parser, taken, take as read, first}
 use Rattle.script_parser.specs.Tests.{code, fixed, kept_as, is_some, sees, sees_word, name_of, word_of, unary_of, link_of, begins_suffix}
-use Rattle.js_parse.specs.Next.{next_kind, is_sign, is_word, is_name, reserved_kind, first_bytes, unary_kind, link_kind, made, linked}
+use Rattle.js_parse.specs.Next.{next_kind, is_sign, is_word, is_name, reserved_kind, first_bytes, unary_kind, link_kind, made, linked, signed}
 use Rattle.js_parse.specs.Reading.{toks}
 use Rattle.js_parse.specs.Lists.{suffix_next}
 use Rattle.std.specs.Prelude.{◌||◌}
@@ -190,7 +190,8 @@ unfolding seen_from
 unary_list bytes k [] = refl
 unary_list bytes k (t ∷ ts) = kind_unary (bytes_of bytes t) k t.kind
 
-pub unary_is : (bytes : List ℕ) (tokens : List Token) (at : ℕ) → made unary_of (first (toks bytes tokens at)) ≡ unary_kind (next_kind (drop at tokens))
+pub unary_is : (bytes : List ℕ) (tokens : List Token) (at : ℕ) → signed (toks bytes tokens at) ≡ unary_kind (next_kind (drop at tokens))
+unfolding signed
 unary_is bytes tokens at = unary_list bytes at (drop at tokens)
 
 kind_link : (l : ℕ) (bytes : List ℕ) (k : ℕ) (c : Kind) → link_of l (seen_as bytes k c) ≡ link_kind l (Some c)

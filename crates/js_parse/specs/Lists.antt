@@ -9,7 +9,9 @@ use Rattle.script_tree.specs.declared.Expr.{Expr}
 use Rattle.script_tree.specs.declared.Label.{Label}
 use Rattle.script_tree.specs.declared.Access.{Access}
 use Rattle.script_tree.specs.View.{view, elems_of, props_of, suffix_of, prop_of}
-use Rattle.script_parser.specs.Steps.{Outcome, and_then, pure}
+use Rattle.script_parser.specs.Steps.{Outcome, Parser, and_then, pure}
+use Rattle.script_parser.specs.Parser.{props, prop, link, links, chain, below}
+use Rattle.script_parser.proofs.Accept.{under}
 use Rattle.std.specs.Prelude.{map}
 
 abbrev pub link_view : Sign × Expr → Sign × Ex
@@ -75,3 +77,19 @@ suffix_next (Some t) = begins_suffix t
 -- the place only goes on
 abbrev pub Forward : {T : Type 0} → ℕ → Result (T × ℕ) Stop → Type 0
 Forward at r = IfOk r (λ x. at ≤ x.1)
+
+abbrev pub one_link : Sign × Expr → Sign × Ex
+one_link l = (l.0, view l.1)
+
+-- the rules for object literals, d levels down
+unfoldable pub props_at : ℕ → Parser Props
+props_at d ts = props (under d) ts
+
+unfoldable pub prop_at : ℕ → Parser Prop
+prop_at d ts = prop (under d) ts
+
+unfoldable pub link_at : ℕ → ℕ → Parser (Sign × Ex)
+link_at d k ts = link k (chain (below d) k) ts
+
+unfoldable pub links_at : ℕ → ℕ → Parser Links
+links_at d k ts = links k (chain (below d) k) ts

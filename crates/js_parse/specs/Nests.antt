@@ -22,9 +22,12 @@ pub record Nests (depth : ℕ) (pre : Global → Source → ℕ → ℕ → Bool
   pub callable : (alloc : Global) (s : Source) (at : ℕ) (whole : Bool) → 0 < depth → pre alloc s at (depth - 1) whole
   pub reads : (alloc : Global) (s : Source) (at : ℕ) (whole : Bool) (r : Result (Expr × ℕ) Stop) → 0 < depth → post alloc s at (depth - 1) whole r → Reads view (rule (depth - 1) whole) s.bytes.now s.tokens.now at r × Forward at r
 
+abbrev pub both : Ex → Ex → Ex × Ex
+both x y = (x, y)
+
 -- the branches of a choice
 abbrev pub branches_rule : Below → Parser (Ex × Ex)
-branches_rule b = expect Question >>= λ _. b.expr >>= λ x. expect Colon >>= λ _. b.expr >>= λ y. pure (x, y)
+branches_rule b = expect Question >>= λ _. b.expr >>= λ x. expect Colon >>= λ _. b.expr >>= λ y. pure (both x y)
 
 abbrev pub branches_view : Expr × Expr → Ex × Ex
 branches_view p = (view p.0, view p.1)

@@ -9,7 +9,7 @@ use Rattle.script_text.specs.declared.token.Kind.TheVariants as kind
 use Rattle.script_grammar.specs.Tokens.{Tok, Toks, bytes_of}
 use Rattle.script_parser.specs.Steps.{first}
 use Rattle.script_grammar.specs.Rules.{is_unary, level_of}
-use Rattle.script_parser.specs.Tests.{code, link_of}
+use Rattle.script_parser.specs.Tests.{code, link_of, unary_of}
 
 abbrev pub next_kind : List Token → Option Kind
 next_kind [] = None
@@ -52,3 +52,7 @@ reserved_kind _ = None
 abbrev pub first_bytes : List ℕ → List Token → List ℕ
 first_bytes bytes [] = []
 first_bytes bytes (t ∷ ts) = bytes_of bytes t
+
+-- the sign before an operand that comes next
+unfoldable pub signed : Toks → Option Sign
+signed ts = made unary_of (first ts)

@@ -1,12 +1,13 @@
 //! Expressions. Each rule takes the function that reads what stands one level down, so that each is proved by itself.
 
-ghost use Rattle.std.specs.Prelude.{◌≡◌, ◌<◌, ◌≤◌, ◌-◌, IfOk};
+ghost use Rattle.std.specs.Prelude.{◌≡◌, ◌<◌, ◌≤◌, ◌-◌, ◌+◌, ◌^◌, Some, IfOk};
 ghost use Rattle.script_tree.specs.View.{view};
-ghost use Rattle.js_parse.specs.Reading.{Reads};
-ghost use Rattle.js_parse.specs.Lists.{Forward, links_view, suffixes_view, one_suffix, elems_view, props_view, one_prop};
+ghost use Rattle.js_parse.specs.Reading.{toks, Reads};
+ghost use Rattle.js_parse.specs.Next.{linked};
+ghost use Rattle.js_parse.specs.Lists.{Forward, links_view, suffixes_view, one_suffix, elems_view, props_view, one_prop, one_link, links_at, link_at, props_at, prop_at};
 ghost use Rattle.js_parse.specs.Nests.{Nests, rule, branches_view, branches_rule};
 ghost use Rattle.script_grammar.specs.Trees.{Choice};
-ghost use Rattle.script_parser.specs.Parser.{below, expr as expr_rule, chain as chain_rule, links as links_rule, unary as unary_rule, post as post_rule, suffixes as suffixes_rule, suffix as suffix_rule, index as index_rule, dot as dot_rule, atom as atom_rule, rounded, listed, elems as elems_rule, objected, props as props_rule, prop as prop_rule};
+ghost use Rattle.script_parser.specs.Parser.{below, expr as expr_rule, chain as chain_rule, unary as unary_rule, post as post_rule, suffixes as suffixes_rule, suffix as suffix_rule, index as index_rule, dot as dot_rule, atom as atom_rule, rounded, listed, elems as elems_rule, objected};
 ghost use Rattle.script_parser.proofs.Accept.{under};
 
 use crate::source::{Source, Stop};
@@ -95,17 +96,32 @@ impl<F: Fn(Global, Source<'_>, usize, usize, bool) -> Result<(Expr, usize), Stop
     fn links(&self, at: usize, level: usize) -> Result<(Items<(Sign, Expr)>, usize), Stop>
         requires level { level < 6 }
         requires nests { Nests self.now.depth (F.pre self.now.read) (F.post self.now.read) }
-        ensures is { Reads links_view (links_rule level (chain_rule (below self.now.depth) level)) self.now.source.bytes.now self.now.source.tokens.now at result }
+        ensures is { Reads links_view (links_at self.now.depth level) self.now.source.bytes.now self.now.source.tokens.now at result }
         ensures forward { Forward at result }
     {
         let mut found = Vec::new(self.alloc);
         let mut next = at;
         while let Some(sign) = self.source.link_sign(next, level) {
-            let (operand, after) = self.chain(next + 1, level)?;
-            found.push((sign, operand))?;
+            let (link, after) = self.link(next, sign, level)?;
+            found.push(link)?;
             next = after;
         }
         Ok((Items::from_vec(found), next))
+    }
+
+    /// An operator of a level and its right operand.
+    #[cycle(chains)]
+    #[tactic(auto, using(crate::proofs::Rules::link_some))]
+    fn link(&self, at: usize, sign: Sign, level: usize) -> Result<((Sign, Expr), usize), Stop>
+        requires level { level < 6 }
+        requires next { at + 1 < 2 ^ 64 }
+        requires sign { Some sign ≡ linked level (toks self.now.source.bytes.now self.now.source.tokens.now at) }
+        requires nests { Nests self.now.depth (F.pre self.now.read) (F.post self.now.read) }
+        ensures is { Reads one_link (link_at self.now.depth level) self.now.source.bytes.now self.now.source.tokens.now at result }
+        ensures forward { IfOk result (λ x. at < x.1) }
+    {
+        let (operand, at) = self.chain(at + 1, level)?;
+        Ok(((sign, operand), at))
     }
 
     /// A sign and its operand, or what stands alone.
@@ -208,19 +224,22 @@ impl<F: Fn(Global, Source<'_>, usize, usize, bool) -> Result<(Expr, usize), Stop
             if self.depth == 0 {
                 return Err(Stop::TooNested(at));
             }
-            return self.round(at);
+            let (inner, at) = self.round(at)?;
+            return Ok((inner, at));
         }
         if self.source.sees(at, Sign::OpenSquare) {
             if self.depth == 0 {
                 return Err(Stop::TooNested(at));
             }
-            return self.list(at);
+            let (list, at) = self.list(at)?;
+            return Ok((list, at));
         }
         if self.source.sees(at, Sign::OpenBrace) {
             if self.depth == 0 {
                 return Err(Stop::TooNested(at));
             }
-            return self.object(at);
+            let (object, at) = self.object(at)?;
+            return Ok((object, at));
         }
         if self.source.is_name(at) {
             let (name, at) = self.source.name(self.alloc, at)?;
@@ -279,7 +298,7 @@ impl<F: Fn(Global, Source<'_>, usize, usize, bool) -> Result<(Expr, usize), Stop
     }
 
     /// An object literal.
-    #[tactic(auto, using(script_tree::proofs::Views::view_object))]
+    #[tactic(auto, using(crate::proofs::Rules::object_is, script_tree::proofs::Views::view_object))]
     fn object(&self, at: usize) -> Result<(Expr, usize), Stop>
         requires left { 0 < self.now.depth }
         requires nests { Nests self.now.depth (F.pre self.now.read) (F.post self.now.read) }
@@ -297,7 +316,7 @@ impl<F: Fn(Global, Source<'_>, usize, usize, bool) -> Result<(Expr, usize), Stop
     fn members(&self, at: usize) -> Result<((Items<(Label, Expr)>, bool), usize), Stop>
         requires left { 0 < self.now.depth }
         requires nests { Nests self.now.depth (F.pre self.now.read) (F.post self.now.read) }
-        ensures is { Reads props_view (props_rule (under (self.now.depth - 1))) self.now.source.bytes.now self.now.source.tokens.now at result }
+        ensures is { Reads props_view (props_at (self.now.depth - 1)) self.now.source.bytes.now self.now.source.tokens.now at result }
         ensures forward { Forward at result }
     {
         let mut found = Vec::new(self.alloc);
@@ -316,7 +335,7 @@ impl<F: Fn(Global, Source<'_>, usize, usize, bool) -> Result<(Expr, usize), Stop
     fn member(&self, at: usize) -> Result<((Label, Expr), usize), Stop>
         requires left { 0 < self.now.depth }
         requires nests { Nests self.now.depth (F.pre self.now.read) (F.post self.now.read) }
-        ensures is { Reads one_prop (prop_rule (under (self.now.depth - 1))) self.now.source.bytes.now self.now.source.tokens.now at result }
+        ensures is { Reads one_prop (prop_at (self.now.depth - 1)) self.now.source.bytes.now self.now.source.tokens.now at result }
         ensures forward { Forward at result }
     {
         let _ = at;

@@ -1,11 +1,11 @@
 //! The tokens of a source, and the steps that read one of them.
 
-ghost use Rattle.std.specs.Prelude.{◌≡◌, ◌+◌, ◌<◌, drop, length, MatchResult, Ok, IfOk, IfErr, IfSome, IsTrue};
+ghost use Rattle.std.specs.Prelude.{◌≡◌, ◌+◌, ◌<◌, ◌^◌, drop, length, MatchResult, Ok, IfOk, IfErr, IfSome, IsTrue};
 ghost use Rattle.script_grammar.specs.Tokens.{bytes_of};
 ghost use Rattle.js_parse.specs.declared.source.Stop.TheVariants as stop;
-ghost use Rattle.js_parse.specs.Next.{next_kind, first_bytes, reserved_kind, made, linked};
+ghost use Rattle.js_parse.specs.Next.{next_kind, first_bytes, reserved_kind, made, linked, signed};
 ghost use Rattle.script_parser.specs.Steps.{first, take};
-ghost use Rattle.script_parser.specs.Tests.{fixed, kept_as, name_of, word_of, unary_of, is_some, sees, sees_word};
+ghost use Rattle.script_parser.specs.Tests.{fixed, kept_as, name_of, word_of, is_some, sees, sees_word};
 ghost use Rattle.script_grammar.specs.Rules.{is_unary, level_of};
 ghost use Rattle.js_parse.specs.Reading.{toks, Fails, Reads};
 ghost use Rattle.script_tree.specs.View.{name_pair, word_of as word_view, view};
@@ -57,6 +57,7 @@ impl Source<'_> {
     pub(crate) fn kind(&self, at: usize) -> Option<Kind>
         ensures is { result ≡ next_kind (drop at self.now.tokens.now) }
         ensures within { IfSome result (λ _. at < length self.now.tokens.now) }
+        ensures next { IfSome result (λ _. at + 1 < 2 ^ 64) }
     {
         if at < self.tokens.len() {
             Some(self.tokens[at].kind)
@@ -70,6 +71,7 @@ impl Source<'_> {
     pub(crate) fn sees(&self, at: usize, sign: Sign) -> bool
         ensures is { result ≡ sees sign (first (toks self.now.bytes.now self.now.tokens.now at)) }
         ensures within { IsTrue result → at < length self.now.tokens.now }
+        ensures next { IsTrue result → at + 1 < 2 ^ 64 }
     {
         match self.kind(at) {
             Some(Kind::Sign(found)) => found == sign,
@@ -82,6 +84,7 @@ impl Source<'_> {
     pub(crate) fn sees_word(&self, at: usize, word: Reserved) -> bool
         ensures is { result ≡ sees_word word (first (toks self.now.bytes.now self.now.tokens.now at)) }
         ensures within { IsTrue result → at < length self.now.tokens.now }
+        ensures next { IsTrue result → at + 1 < 2 ^ 64 }
     {
         match self.kind(at) {
             Some(Kind::Reserved(found)) => word.same(found),
@@ -131,6 +134,7 @@ impl Source<'_> {
     pub(crate) fn is_name(&self, at: usize) -> bool
         ensures is { result ≡ is_some (made name_of (first (toks self.now.bytes.now self.now.tokens.now at))) }
         ensures within { IsTrue result → at < length self.now.tokens.now }
+        ensures next { IsTrue result → at + 1 < 2 ^ 64 }
     {
         match self.kind(at) {
             Some(Kind::Name) => true,
@@ -153,6 +157,7 @@ impl Source<'_> {
     pub(crate) fn reserved(&self, at: usize) -> Option<Reserved>
         ensures is { result ≡ reserved_kind (next_kind (drop at self.now.tokens.now)) }
         ensures within { IfSome result (λ _. at < length self.now.tokens.now) }
+        ensures next { IfSome result (λ _. at + 1 < 2 ^ 64) }
     {
         match self.kind(at) {
             Some(Kind::Reserved(word)) => Some(word),
@@ -176,8 +181,9 @@ impl Source<'_> {
     /// The sign before an operand that comes next.
     #[tactic(auto, using(crate::proofs::Seen::unary_is))]
     pub(crate) fn unary_sign(&self, at: usize) -> Option<Sign>
-        ensures is { result ≡ made unary_of (first (toks self.now.bytes.now self.now.tokens.now at)) }
+        ensures is { result ≡ signed (toks self.now.bytes.now self.now.tokens.now at) }
         ensures within { IfSome result (λ _. at < length self.now.tokens.now) }
+        ensures next { IfSome result (λ _. at + 1 < 2 ^ 64) }
     {
         match self.kind(at) {
             Some(Kind::Sign(sign)) => {
@@ -196,6 +202,7 @@ impl Source<'_> {
     pub(crate) fn link_sign(&self, at: usize, level: usize) -> Option<Sign>
         ensures is { result ≡ linked level (toks self.now.bytes.now self.now.tokens.now at) }
         ensures within { IfSome result (λ _. at < length self.now.tokens.now) }
+        ensures next { IfSome result (λ _. at + 1 < 2 ^ 64) }
     {
         match self.kind(at) {
             Some(Kind::Sign(sign)) => {
@@ -214,6 +221,7 @@ impl Source<'_> {
     pub(crate) fn begins_suffix(&self, at: usize) -> bool
         ensures is { result ≡ suffix_next (first (toks self.now.bytes.now self.now.tokens.now at)) }
         ensures within { IsTrue result → at < length self.now.tokens.now }
+        ensures next { IsTrue result → at + 1 < 2 ^ 64 }
     {
         self.sees(at, Sign::Dot) || self.sees(at, Sign::OpenSquare)
     }

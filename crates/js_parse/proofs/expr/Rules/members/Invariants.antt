@@ -2,12 +2,12 @@ use Rattle.std.proofs.Common.{◌≡◌, ◌≤◌, ◌-◌, ◌+◌, ◌*◌, l
 use Rattle.script_parser.specs.Parser.{below, chain, links, suffixes, elems, props}
 use Rattle.script_parser.proofs.Accept.{under}
 use Rattle.js_parse.specs.Reading.{toks}
-use Rattle.js_parse.specs.Lists.{onto_links, onto_suffixes, onto_elems, onto_props}
+use Rattle.js_parse.specs.Lists.{onto_links, onto_suffixes, onto_elems, onto_props, props_at}
 use Rattle.js_parse.proofs.expr.Rules.members.Given as goal
 
 abbrev pub invariant-more : goal.invariant-more
 invariant-more g l = record {
-  rest : onto_props l.found.items (props (under (l.self.depth - 1)) (toks l.self.source.bytes.now l.self.source.tokens.now l.next)) ≡ props (under (l.self.depth - 1)) (toks l.self.source.bytes.now l.self.source.tokens.now l.at);
+  rest : onto_props l.found.items (props_at (l.self.depth - 1) (toks l.self.source.bytes.now l.self.source.tokens.now l.next)) ≡ props_at (l.self.depth - 1) (toks l.self.source.bytes.now l.self.source.tokens.now l.at);
   forward : l.at ≤ l.next
 }
 
