@@ -16,11 +16,13 @@ use Rattle.script_parser.proofs.Statements.{good_below}
 use Rattle.script_tree.specs.declared.Label.{Label}
 use Rattle.script_tree.specs.declared.Access.{Access}
 use Rattle.script_tree.specs.declared.Expr.{Expr}
+use Rattle.script_tree.specs.declared.Expr.TheVariants as ex
+use Rattle.script_tree.proofs.Views.{view_unary}
 use Rattle.script_tree.specs.View.{view, chain_of, links_of, member_of, suffix_of, suffixes_of, prop_of, elems_of, props_of}
 use Rattle.js_parse.specs.Next.{made, linked, signed}
 use Rattle.js_parse.specs.Reading.{toks}
 use Rattle.js_parse.specs.Nests.{both, branches_rule}
-use Rattle.js_parse.specs.Lists.{links_before, onto_links, suffix_view, one_suffix, suffix_next, suffixes_before, onto_suffixes, elems_before, onto_elems, prop_view, one_prop, props_before, onto_props, one_link, props_at, prop_at, link_at, links_at}
+use Rattle.js_parse.specs.Lists.{links_before, onto_links, suffix_view, one_suffix, suffix_next, suffixes_before, onto_suffixes, elems_before, onto_elems, prop_view, one_prop, props_before, onto_props, one_link, props_at, prop_at, link_at, links_at, objected_at}
 use Rattle.js_parse.proofs.Seen.{read_some, read_none, sign_read}
 
 -- the next token is this sign
@@ -97,7 +99,8 @@ atom_list d ts e h = rw (list_form ts h) (within (fixed OpenSquare) listed d ts 
 pub atom_object_deep : (d : ℕ) (ts : Toks) → d ≡ 0 → sees OpenBrace (first ts) ≡ true → atom (below d) ts ≡ Err (TooNested, ts)
 atom_object_deep d ts e h = rw (object_form ts h) (deep (fixed OpenBrace) objected d ts tt e (made_sign OpenBrace ts h))
 
-pub atom_object : (d : ℕ) (ts : Toks) → d ≢ 0 → sees OpenBrace (first ts) ≡ true → atom (below d) ts ≡ objected (under (d - 1)) ts
+pub atom_object : (d : ℕ) (ts : Toks) → d ≢ 0 → sees OpenBrace (first ts) ≡ true → atom (below d) ts ≡ objected_at (d - 1) ts
+unfolding props_at
 atom_object d ts e h = rw (object_form ts h) (within (fixed OpenBrace) objected d ts e)
 
 pub atom_name : (d : ℕ) (ts : Toks) → is_some (made name_of (first ts)) ≡ true → atom (below d) ts ≡ named ts
@@ -308,10 +311,6 @@ props_on d bytes tokens ts next p found h c k = ap (onto_props found) (props_go 
 pub props_fault : (d : ℕ) (ts : Toks) (x : Why × Toks) (found : List (Label × Expr)) → sees CloseBrace (first ts) ≡ false → prop_at d ts ≡ Err x → onto_props found (props_at d ts) ≡ Err x
 props_fault d ts x found h c = let whole : props_at d ts ≡ Err x = props_go d ts h ∙ rw c refl in ap (onto_props found) whole
 
-pub object_is : (d : ℕ) (ts : Toks) → objected (under d) ts ≡ and_then (expect OpenBrace ts) (λ _. props_at d >>= λ ps. expect CloseBrace >>= λ _. pure (Object ps))
-unfolding props_at
-object_is d ts = refl
-
 -- ---- choices
 pub choice_deep : (d : ℕ) (c : Ex) (ts : Toks) → d ≡ 0 → sees Question (first ts) ≡ true → look (λ t. choice_by (below d) c (sees Question t)) ts ≡ Err (TooNested, ts)
 choice_deep d c ts e h = rw h (deep (fixed Question) (choice c) d ts tt e (made_sign Question ts h))
@@ -341,3 +340,16 @@ choice_in d c ts e h = rw h (within (fixed Question) (choice c) d ts e) ∙ choi
 
 pub choice_no : (d : ℕ) (c : Ex) (ts : Toks) → sees Question (first ts) ≡ false → look (λ t. choice_by (below d) c (sees Question t)) ts ≡ Ok (c, ts)
 choice_no d c ts h = rw h refl
+
+-- ---- what a step inside gives
+pub link_ok : (d k : ℕ) (bytes : List ℕ) (tokens : List Token) (at next : ℕ) (s : Sign) (e : Ex) → Some s ≡ linked k (toks bytes tokens at) → chain (below d) k (toks bytes tokens (at + 1)) ≡ Ok (e, toks bytes tokens next) → link_at d k (toks bytes tokens at) ≡ Ok ((s, e), toks bytes tokens next)
+link_ok d k bytes tokens at next s e h c = link_some d k bytes tokens at s h ∙ rw c refl
+
+pub link_err : (d k : ℕ) (bytes : List ℕ) (tokens : List Token) (at : ℕ) (s : Sign) (x : Why × Toks) → Some s ≡ linked k (toks bytes tokens at) → chain (below d) k (toks bytes tokens (at + 1)) ≡ Err x → link_at d k (toks bytes tokens at) ≡ Err x
+link_err d k bytes tokens at s x h c = link_some d k bytes tokens at s h ∙ rw c refl
+
+pub unary_ok : (d : ℕ) (bytes : List ℕ) (tokens : List Token) (at next : ℕ) (s : Sign) (e : Expr) → d ≢ 0 → Some s ≡ signed (toks bytes tokens at) → unary (below (d - 1)) (toks bytes tokens (at + 1)) ≡ Ok (view e, toks bytes tokens next) → unary (below d) (toks bytes tokens at) ≡ Ok (view (ex.Unary s e), toks bytes tokens next)
+unary_ok d bytes tokens at next s e n h c = unary_sign d bytes tokens at s n h ∙ rw (c, view_unary s e) refl
+
+pub unary_err : (d : ℕ) (bytes : List ℕ) (tokens : List Token) (at : ℕ) (s : Sign) (x : Why × Toks) → d ≢ 0 → Some s ≡ signed (toks bytes tokens at) → unary (below (d - 1)) (toks bytes tokens (at + 1)) ≡ Err x → unary (below d) (toks bytes tokens at) ≡ Err x
+unary_err d bytes tokens at s x n h c = unary_sign d bytes tokens at s n h ∙ rw c refl

@@ -279,8 +279,8 @@ read_left {A = A} {B = B} f g (t ∷ ts) rest a b h k = go (f t) h
 
 pub key_name : (bytes : List ℕ) (tokens : List Token) (at : ℕ) (t : Token) → at < length tokens → is_some (made name_of (first (toks bytes tokens at))) ≡ true → read word_of (toks bytes tokens at) ≡ Ok (Named at (bytes_of bytes (slice_index_or tokens at t)), toks bytes tokens (at + 1))
 key_name bytes tokens at t l h =
-  let n = name_read bytes tokens at t l h in
-  read_left name_of word_of (toks bytes tokens at) (toks bytes tokens (at + 1)) (at, bytes_of bytes (slice_index_or tokens at t)) (Named at (bytes_of bytes (slice_index_or tokens at t))) n (key_of_name (first (toks bytes tokens at)) (at, bytes_of bytes (slice_index_or tokens at t)) (read_made name_of (toks bytes tokens at) (toks bytes tokens (at + 1)) (at, bytes_of bytes (slice_index_or tokens at t)) n))
+    let n = name_read bytes tokens at t l h in
+    read_left name_of word_of (toks bytes tokens at) (toks bytes tokens (at + 1)) (at, bytes_of bytes (slice_index_or tokens at t)) (Named at (bytes_of bytes (slice_index_or tokens at t))) n (key_of_name (first (toks bytes tokens at)) (at, bytes_of bytes (slice_index_or tokens at t)) (read_made name_of (toks bytes tokens at) (toks bytes tokens (at + 1)) (at, bytes_of bytes (slice_index_or tokens at t)) n))
 
 word_kind_list : (bytes : List ℕ) (k : ℕ) (ts : List Token) (w : Reserved) → Some w ≡ reserved_kind (next_kind ts) → made word_of (first (seen_from bytes k ts)) ≡ Some (Reserve w)
 unfolding seen_from

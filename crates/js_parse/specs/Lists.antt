@@ -4,13 +4,14 @@ use Rattle.script_grammar.specs.Tokens.{Tok}
 use Rattle.script_parser.specs.Tests.{begins_suffix}
 use Rattle.js_parse.specs.declared.source.Stop.{Stop}
 use Rattle.script_text.specs.declared.sign.Sign.{Sign}
-use Rattle.script_grammar.specs.Trees.{Ex, Elems, ThenElem, Links, NoLinks, ThenLink, Suffix, Suffixes, NoSuffixes, ThenSuffix, Prop, Props, ThenProp}
+use Rattle.script_grammar.specs.Trees.{Ex, Object, Elems, ThenElem, Links, NoLinks, ThenLink, Suffix, Suffixes, NoSuffixes, ThenSuffix, Prop, Props, ThenProp}
 use Rattle.script_tree.specs.declared.Expr.{Expr}
 use Rattle.script_tree.specs.declared.Label.{Label}
 use Rattle.script_tree.specs.declared.Access.{Access}
 use Rattle.script_tree.specs.View.{view, elems_of, props_of, suffix_of, prop_of}
-use Rattle.script_parser.specs.Steps.{Outcome, Parser, and_then, pure}
-use Rattle.script_parser.specs.Parser.{props, prop, link, links, chain, below}
+use Rattle.script_parser.specs.Steps.{Outcome, Parser, and_then, ◌>>=◌, pure}
+use Rattle.script_text.specs.declared.sign.Sign.TheVariants.{OpenBrace, CloseBrace}
+use Rattle.script_parser.specs.Parser.{expect, props, prop, link, links, chain, below}
 use Rattle.script_parser.proofs.Accept.{under}
 use Rattle.std.specs.Prelude.{map}
 
@@ -93,3 +94,6 @@ link_at d k ts = link k (chain (below d) k) ts
 
 unfoldable pub links_at : ℕ → ℕ → Parser Links
 links_at d k ts = links k (chain (below d) k) ts
+
+abbrev pub objected_at : ℕ → Parser Ex
+objected_at d = expect OpenBrace >>= λ _. props_at d >>= λ ps. expect CloseBrace >>= λ _. pure (Object ps)

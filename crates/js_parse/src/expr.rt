@@ -4,10 +4,10 @@ ghost use Rattle.std.specs.Prelude.{◌≡◌, ◌<◌, ◌≤◌, ◌-◌, ◌+
 ghost use Rattle.script_tree.specs.View.{view};
 ghost use Rattle.js_parse.specs.Reading.{toks, Reads};
 ghost use Rattle.js_parse.specs.Next.{linked};
-ghost use Rattle.js_parse.specs.Lists.{Forward, links_view, suffixes_view, one_suffix, elems_view, props_view, one_prop, one_link, links_at, link_at, props_at, prop_at};
+ghost use Rattle.js_parse.specs.Lists.{Forward, links_view, suffixes_view, one_suffix, elems_view, props_view, one_prop, one_link, links_at, link_at, props_at, prop_at, objected_at};
 ghost use Rattle.js_parse.specs.Nests.{Nests, rule, branches_view, branches_rule};
 ghost use Rattle.script_grammar.specs.Trees.{Choice};
-ghost use Rattle.script_parser.specs.Parser.{below, expr as expr_rule, chain as chain_rule, unary as unary_rule, post as post_rule, suffixes as suffixes_rule, suffix as suffix_rule, index as index_rule, dot as dot_rule, atom as atom_rule, rounded, listed, elems as elems_rule, objected};
+ghost use Rattle.script_parser.specs.Parser.{below, expr as expr_rule, chain as chain_rule, unary as unary_rule, post as post_rule, suffixes as suffixes_rule, suffix as suffix_rule, index as index_rule, dot as dot_rule, atom as atom_rule, rounded, listed, elems as elems_rule};
 ghost use Rattle.script_parser.proofs.Accept.{under};
 
 use crate::source::{Source, Stop};
@@ -87,7 +87,10 @@ impl<F: Fn(Global, Source<'_>, usize, usize, bool) -> Result<(Expr, usize), Stop
         if links.is_empty() {
             return Ok((operand, at));
         }
-        Ok((Expr::Chain(level - 1, Boxed::new(self.alloc, operand)?, links), at))
+        Ok((
+            Expr::Chain(level - 1, Boxed::new(self.alloc, operand)?, links),
+            at,
+        ))
     }
 
     /// The operators of one level with their right operands.
@@ -111,7 +114,7 @@ impl<F: Fn(Global, Source<'_>, usize, usize, bool) -> Result<(Expr, usize), Stop
 
     /// An operator of a level and its right operand.
     #[cycle(chains)]
-    #[tactic(auto, using(crate::proofs::Rules::link_some))]
+    #[tactic(auto, using(crate::proofs::Rules::link_ok, crate::proofs::Rules::link_err))]
     fn link(&self, at: usize, sign: Sign, level: usize) -> Result<((Sign, Expr), usize), Stop>
         requires level { level < 6 }
         requires next { at + 1 < 2 ^ 64 }
@@ -125,7 +128,7 @@ impl<F: Fn(Global, Source<'_>, usize, usize, bool) -> Result<(Expr, usize), Stop
     }
 
     /// A sign and its operand, or what stands alone.
-    #[tactic(auto, using(crate::proofs::Rules::unary_deep, crate::proofs::Rules::unary_sign, crate::proofs::Rules::unary_post, script_tree::proofs::Views::view_unary))]
+    #[tactic(auto, using(crate::proofs::Rules::unary_deep, crate::proofs::Rules::unary_ok, crate::proofs::Rules::unary_err, crate::proofs::Rules::unary_post, script_tree::proofs::Views::view_unary))]
     pub(crate) fn unary(&self, at: usize) -> Result<(Expr, usize), Stop>
         requires nests { Nests self.now.depth (F.pre self.now.read) (F.post self.now.read) }
         ensures is { Reads view (unary_rule (below self.now.depth)) self.now.source.bytes.now self.now.source.tokens.now at result }
@@ -298,11 +301,11 @@ impl<F: Fn(Global, Source<'_>, usize, usize, bool) -> Result<(Expr, usize), Stop
     }
 
     /// An object literal.
-    #[tactic(auto, using(crate::proofs::Rules::object_is, script_tree::proofs::Views::view_object))]
+    #[tactic(auto, using(script_tree::proofs::Views::view_object))]
     fn object(&self, at: usize) -> Result<(Expr, usize), Stop>
         requires left { 0 < self.now.depth }
         requires nests { Nests self.now.depth (F.pre self.now.read) (F.post self.now.read) }
-        ensures is { Reads view (objected (under (self.now.depth - 1))) self.now.source.bytes.now self.now.source.tokens.now at result }
+        ensures is { Reads view (objected_at (self.now.depth - 1)) self.now.source.bytes.now self.now.source.tokens.now at result }
         ensures forward { Forward at result }
     {
         let at = self.source.expect(at, Sign::OpenBrace)?;

@@ -28,6 +28,7 @@ pub(crate) enum Stop {
 impl From<AllocError> for Stop {
     ghost use Rattle.std.specs.Prelude.{◌≡◌};
     ghost use Rattle.js_parse.specs.declared.source.Stop.TheVariants.{Memory};
+
     ghost from_gives = { λ _ e. e ≡ Memory };
 
     fn from(_error: AllocError) -> Stop {
@@ -38,6 +39,7 @@ impl From<AllocError> for Stop {
 impl<T: Drop> From<AllocFailed<T>> for Stop {
     ghost use Rattle.std.specs.Prelude.{◌≡◌};
     ghost use Rattle.js_parse.specs.declared.source.Stop.TheVariants.{Memory};
+
     ghost from_gives = { λ _ e. e ≡ Memory };
 
     fn from(_error: AllocFailed<T>) -> Stop {
@@ -186,13 +188,7 @@ impl Source<'_> {
         ensures next { IfSome result (λ _. at + 1 < 2 ^ 64) }
     {
         match self.kind(at) {
-            Some(Kind::Sign(sign)) => {
-                if is_unary(sign) {
-                    Some(sign)
-                } else {
-                    None
-                }
-            }
+            Some(Kind::Sign(sign)) => { if is_unary(sign) { Some(sign) } else { None } }
             _ => None,
         }
     }

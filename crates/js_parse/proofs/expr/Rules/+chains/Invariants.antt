@@ -17,7 +17,7 @@ decreases-link g l = 3 * l.level + 1
 abbrev pub invariant-links-loop-sign : goal.invariant-links-loop-sign
 invariant-links-loop-sign g l = record {
   rest : onto_links l.found.items (links_at l.self.depth l.level (toks l.self.source.bytes.now l.self.source.tokens.now l.next)) ≡ links_at l.self.depth l.level (toks l.self.source.bytes.now l.self.source.tokens.now l.at);
-  forward : l.at ≤ l.next
+  forward : l.at ≤ l.next;
 }
 
 abbrev pub decreases-links-loop-sign : goal.decreases-links-loop-sign

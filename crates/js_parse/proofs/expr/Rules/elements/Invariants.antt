@@ -8,7 +8,7 @@ use Rattle.js_parse.proofs.expr.Rules.elements.Given as goal
 abbrev pub invariant-more : goal.invariant-more
 invariant-more g l = record {
   rest : onto_elems l.found.items (elems (under (l.self.depth - 1)) (toks l.self.source.bytes.now l.self.source.tokens.now l.next)) ≡ elems (under (l.self.depth - 1)) (toks l.self.source.bytes.now l.self.source.tokens.now l.at);
-  forward : l.at ≤ l.next
+  forward : l.at ≤ l.next;
 }
 
 abbrev pub decreases-more : goal.decreases-more

@@ -8,7 +8,7 @@ use Rattle.js_parse.proofs.expr.Rules.members.Given as goal
 abbrev pub invariant-more : goal.invariant-more
 invariant-more g l = record {
   rest : onto_props l.found.items (props_at (l.self.depth - 1) (toks l.self.source.bytes.now l.self.source.tokens.now l.next)) ≡ props_at (l.self.depth - 1) (toks l.self.source.bytes.now l.self.source.tokens.now l.at);
-  forward : l.at ≤ l.next
+  forward : l.at ≤ l.next;
 }
 
 abbrev pub decreases-more : goal.decreases-more
