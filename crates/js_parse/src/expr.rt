@@ -355,3 +355,29 @@ fn choice(alloc: Global, test: Expr, then: Expr, other: Expr) -> Result<Expr, Al
     let other = Boxed::new(alloc, other)?;
     Ok(Expr::Choice(test, then, other))
 }
+
+/// A whole expression, or an operand with the signs before it, with so many levels left.
+pub(crate) fn read(
+    alloc: Global,
+    source: Source<'_>,
+    at: usize,
+    depth: usize,
+    whole: bool,
+) -> Result<(Expr, usize), Stop>
+    ensures is { Reads view (rule depth whole) source.entry.bytes.now source.entry.tokens.now at result }
+    ensures forward { Forward at result }
+{
+    let rules = Rules {
+        alloc,
+        source,
+        depth,
+        read,
+    };
+    if whole {
+        let (expr, at) = rules.expr(at)?;
+        Ok((expr, at))
+    } else {
+        let (operand, at) = rules.unary(at)?;
+        Ok((operand, at))
+    }
+}
