@@ -19,7 +19,7 @@ use Rattle.script_tree.specs.declared.Expr.{Expr}
 use Rattle.script_tree.specs.declared.Expr.TheVariants as ex
 use Rattle.script_tree.proofs.Views.{view_unary}
 use Rattle.script_tree.specs.View.{view, chain_of, links_of, member_of, suffix_of, suffixes_of, prop_of, elems_of, props_of}
-use Rattle.js_parse.specs.Next.{made, linked, signed}
+use Rattle.js_parse.specs.Next.{made, linked, signed, literals}
 use Rattle.js_parse.specs.Reading.{toks}
 use Rattle.js_parse.specs.Nests.{both, branches_rule}
 use Rattle.js_parse.specs.Lists.{links_before, onto_links, suffix_view, one_suffix, suffix_next, suffixes_before, onto_suffixes, elems_before, onto_elems, prop_view, one_prop, props_before, onto_props, one_link, props_at, prop_at, link_at, links_at, objected_at}
@@ -106,7 +106,8 @@ atom_object d ts e h = rw (object_form ts h) (within (fixed OpenBrace) objected 
 pub atom_name : (d : ℕ) (ts : Toks) → is_some (made name_of (first ts)) ≡ true → atom (below d) ts ≡ named ts
 atom_name d ts h = rw (name_form ts h) refl
 
-pub atom_other : (d : ℕ) (ts : Toks) → sees OpenRound (first ts) ≡ false → sees OpenSquare (first ts) ≡ false → sees OpenBrace (first ts) ≡ false → is_some (made name_of (first ts)) ≡ false → atom (below d) ts ≡ literal ts
+pub atom_other : (d : ℕ) (ts : Toks) → sees OpenRound (first ts) ≡ false → sees OpenSquare (first ts) ≡ false → sees OpenBrace (first ts) ≡ false → is_some (made name_of (first ts)) ≡ false → atom (below d) ts ≡ literals ts
+unfolding literals
 atom_other d ts a b c h = rw (other_form ts a b c h) refl
 
 -- ---- signs

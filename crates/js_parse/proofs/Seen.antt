@@ -11,12 +11,13 @@ use Rattle.script_text.specs.declared.token.Kind.TheVariants as kind
 use Rattle.script_text.specs.Lexical.{largest}
 use Rattle.script_grammar.specs.Tokens.{Tok, Name, Kept, Integer, Text, Fixed, Other, Toks, bytes_of, text_value, as_text, seen_as, seen, seen_from}
 use Rattle.script_parser.specs.Steps.{Unexpected, Parser, taken, take as read, first}
-use Rattle.script_parser.specs.Tests.{code, fixed, kept_as, is_some, sees, sees_word, name_of, word_of, unary_of, link_of, begins_suffix}
-use Rattle.js_parse.specs.Next.{next_kind, is_sign, is_word, is_name, reserved_kind, first_bytes, unary_kind, link_kind, made, linked, signed}
+use Rattle.script_parser.specs.Tests.{code, fixed, kept_as, is_some, sees, sees_word, name_of, word_of, unary_of, link_of, begins_suffix, lit_of, text_of}
+use Rattle.js_parse.specs.Next.{next_kind, is_sign, is_word, is_name, reserved_kind, first_bytes, unary_kind, link_kind, made, linked, signed, text_next, literals, lit_ex}
 use Rattle.js_parse.specs.Reading.{toks}
 use Rattle.js_parse.specs.Lists.{suffix_next}
 use Rattle.std.specs.Prelude.{◌||◌}
-use Rattle.script_grammar.specs.Trees.{Word, Named, Reserve}
+use Rattle.script_grammar.specs.Trees.{Word, Named, Reserve, Lit, Number, Quote, Ex, Literal}
+use Rattle.std.proofs.lemmas.Bool.Decides.{nat_tests}
 use Rattle.script_text.specs.declared.sign.Sign.TheVariants.{Same, NotSame, AtMost, AtLeast, And, Or, OpenRound, CloseRound, OpenBrace, CloseBrace, OpenSquare, CloseSquare, Comma, Semicolon, Colon, Dot, Question, Assign, Less, Greater, Plus, Minus, Star, Percent, Not}
 
 -- what is seen of an integer and of a text
@@ -324,3 +325,73 @@ name_here bytes tokens at n l h e = let t = some_token tokens at l in rw (e, fir
 
 pub key_here : (bytes : List ℕ) (tokens : List Token) (at : ℕ) (n : ℕ × List ℕ) → at < length tokens → is_some (made name_of (first (toks bytes tokens at))) ≡ true → n ≡ (at, first_bytes bytes (drop at tokens)) → read word_of (toks bytes tokens at) ≡ Ok (Named n.0 n.1, toks bytes tokens (at + 1))
 key_here bytes tokens at n l h e = let t = some_token tokens at l in rw (e, first_bytes_is bytes tokens at t l) (key_name bytes tokens at t l h)
+
+-- ---- literals
+lit_some : (bytes : List ℕ) (tokens : List Token) (at : ℕ) (l : Lit) → made lit_of (first (toks bytes tokens at)) ≡ Some l → literals (toks bytes tokens at) ≡ Ok (Literal l, toks bytes tokens (at + 1))
+unfolding literals
+lit_some bytes tokens at l h = rw (read_some lit_of bytes tokens at l h) refl
+
+lit_none : (ts : Toks) → made lit_of (first ts) ≡ None → literals ts ≡ Err (Unexpected, ts)
+unfolding literals
+lit_none ts h = rw (read_none lit_of ts h) refl
+
+-- the next token by its kind
+by_kind : (bytes : List ℕ) (k : ℕ) (ts : List Token) (c : Kind) → Some c ≡ next_kind ts → (v : List ℕ) × (first (seen_from bytes k ts) ≡ Some (seen_as v k c))
+unfolding seen_from
+by_kind bytes k [] c h = absurd cc
+by_kind bytes k (t ∷ ts) c h = let same : t.kind ≡ c = cc in (bytes_of bytes t, ap (λ (c : Kind). Some (seen_as (bytes_of bytes t) k c)) same)
+
+pub literal_integer : (bytes : List ℕ) (tokens : List Token) (at n : ℕ) → Some (kind.Integer n) ≡ next_kind (drop at tokens) → n ≤ largest → literals (toks bytes tokens at) ≡ Ok (Literal (Number n), toks bytes tokens (at + 1))
+literal_integer bytes tokens at n h l = let f = by_kind bytes at (drop at tokens) (kind.Integer n) h in let e : nat_lt largest n ≡ false = grind (arith, nat_tests) in lit_some bytes tokens at (Number n) (rw (f.1, e) refl)
+
+pub literal_big : (bytes : List ℕ) (tokens : List Token) (at n : ℕ) → Some (kind.Integer n) ≡ next_kind (drop at tokens) → largest < n → literals (toks bytes tokens at) ≡ Err (Unexpected, toks bytes tokens at)
+literal_big bytes tokens at n h l = let f = by_kind bytes at (drop at tokens) (kind.Integer n) h in let e : nat_lt largest n ≡ true = grind (arith, nat_tests) in lit_none (toks bytes tokens at) (rw (f.1, e) refl)
+
+pub literal_name : (bytes : List ℕ) (tokens : List Token) (at : ℕ) → Some kind.Name ≡ next_kind (drop at tokens) → literals (toks bytes tokens at) ≡ Err (Unexpected, toks bytes tokens at)
+literal_name bytes tokens at h = let f = by_kind bytes at (drop at tokens) kind.Name h in lit_none (toks bytes tokens at) (rw f.1 refl)
+
+pub literal_sign : (bytes : List ℕ) (tokens : List Token) (at : ℕ) (s : Sign) → Some (kind.Sign s) ≡ next_kind (drop at tokens) → literals (toks bytes tokens at) ≡ Err (Unexpected, toks bytes tokens at)
+literal_sign bytes tokens at s h = let f = by_kind bytes at (drop at tokens) (kind.Sign s) h in lit_none (toks bytes tokens at) (rw f.1 refl)
+
+literal_list : (bytes : List ℕ) (k : ℕ) (ts : List Token) → None ≡ next_kind ts → made lit_of (first (seen_from bytes k ts)) ≡ None
+unfolding seen_from
+literal_list bytes k [] h = refl
+literal_list bytes k (t ∷ ts) h = absurd cc
+
+pub literal_end : (bytes : List ℕ) (tokens : List Token) (at : ℕ) → None ≡ next_kind (drop at tokens) → literals (toks bytes tokens at) ≡ Err (Unexpected, toks bytes tokens at)
+literal_end bytes tokens at h = lit_none (toks bytes tokens at) (literal_list bytes at (drop at tokens) h)
+
+lit_of_text : (c : Option Tok) (v : List ℕ) → made text_of c ≡ Some v → made lit_of c ≡ Some (Quote v)
+lit_of_text None v h = absurd cc
+lit_of_text (Some (Text b)) v h = let same : b ≡ v = cc in ap (λ (b : List ℕ). Some (Quote b)) same
+lit_of_text (Some (Name at b)) v h = absurd cc
+lit_of_text (Some (Kept r)) v h = absurd cc
+lit_of_text (Some (Integer n)) v h = absurd cc
+lit_of_text (Some Other) v h = absurd cc
+lit_of_text (Some (Fixed s)) v h = absurd cc
+
+pub literal_text : (bytes : List ℕ) (tokens : List Token) (at : ℕ) (v : List ℕ) → Some v ≡ text_next (toks bytes tokens at) → literals (toks bytes tokens at) ≡ Ok (Literal (Quote v), toks bytes tokens (at + 1))
+unfolding text_next
+literal_text bytes tokens at v h = lit_some bytes tokens at (Quote v) (lit_of_text (first (toks bytes tokens at)) v (sym h))
+
+no_text_lit : (o : Option (List ℕ)) → made text_of (Some (as_text o)) ≡ None → made lit_of (Some (as_text o)) ≡ None
+no_text_lit None h = refl
+no_text_lit (Some v) h = absurd cc
+
+pub literal_no_text : (bytes : List ℕ) (tokens : List Token) (at : ℕ) → Some kind.Text ≡ next_kind (drop at tokens) → None ≡ text_next (toks bytes tokens at) → literals (toks bytes tokens at) ≡ Err (Unexpected, toks bytes tokens at)
+unfolding text_next
+literal_no_text bytes tokens at h k = let f = by_kind bytes at (drop at tokens) kind.Text h in lit_none (toks bytes tokens at) (rw f.1 (no_text_lit (text_value f.0) (rw f.1 at (sym k))))
+
+pub literal_word : (bytes : List ℕ) (tokens : List Token) (at : ℕ) (w : Reserved) (e : Ex) → Some (kind.Reserved w) ≡ next_kind (drop at tokens) → Some e ≡ lit_ex (lit_of (Kept w)) → literals (toks bytes tokens at) ≡ Ok (e, toks bytes tokens (at + 1))
+literal_word bytes tokens at w e h k = let f = by_kind bytes at (drop at tokens) (kind.Reserved w) h in go (lit_of (Kept w)) (rw f.1 refl) k
+  where
+    go : (o : Option Lit) → made lit_of (first (toks bytes tokens at)) ≡ o → Some e ≡ lit_ex o → literals (toks bytes tokens at) ≡ Ok (e, toks bytes tokens (at + 1))
+    go None m k = absurd cc
+    go (Some l) m k = let same : Literal l ≡ e = cc in lit_some bytes tokens at l m ∙ ap (λ (e : Ex). Ok (e, toks bytes tokens (at + 1))) same
+
+pub literal_no_word : (bytes : List ℕ) (tokens : List Token) (at : ℕ) (w : Reserved) → Some (kind.Reserved w) ≡ next_kind (drop at tokens) → None ≡ lit_ex (lit_of (Kept w)) → literals (toks bytes tokens at) ≡ Err (Unexpected, toks bytes tokens at)
+literal_no_word bytes tokens at w h k = let f = by_kind bytes at (drop at tokens) (kind.Reserved w) h in go (lit_of (Kept w)) (rw f.1 refl) k
+  where
+    go : (o : Option Lit) → made lit_of (first (toks bytes tokens at)) ≡ o → None ≡ lit_ex o → literals (toks bytes tokens at) ≡ Err (Unexpected, toks bytes tokens at)
+    go None m k = lit_none (toks bytes tokens at) m
+    go (Some l) m k = absurd cc

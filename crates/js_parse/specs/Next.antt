@@ -7,9 +7,11 @@ use Rattle.script_text.specs.declared.token.Token.{Token}
 use Rattle.script_text.specs.declared.token.Kind.{Kind}
 use Rattle.script_text.specs.declared.token.Kind.TheVariants as kind
 use Rattle.script_grammar.specs.Tokens.{Tok, Toks, bytes_of}
-use Rattle.script_parser.specs.Steps.{first}
+use Rattle.script_parser.specs.Steps.{first, Parser}
 use Rattle.script_grammar.specs.Rules.{is_unary, level_of}
-use Rattle.script_parser.specs.Tests.{code, link_of, unary_of}
+use Rattle.script_parser.specs.Tests.{code, link_of, unary_of, text_of}
+use Rattle.script_parser.specs.Parser.{literal}
+use Rattle.script_grammar.specs.Trees.{Lit, Ex, Literal}
 
 abbrev pub next_kind : List Token → Option Kind
 next_kind [] = None
@@ -56,3 +58,14 @@ first_bytes bytes (t ∷ ts) = bytes_of bytes t
 -- the sign before an operand that comes next
 unfoldable pub signed : Toks → Option Sign
 signed ts = made unary_of (first ts)
+
+-- the value of the text that comes next
+unfoldable pub text_next : Toks → Option (List ℕ)
+text_next ts = made text_of (first ts)
+
+unfoldable pub literals : Parser Ex
+literals ts = literal ts
+
+abbrev pub lit_ex : Option Lit → Option Ex
+lit_ex None = None
+lit_ex (Some l) = Some (Literal l)

@@ -1,21 +1,23 @@
 //! The tokens of a source, and the steps that read one of them.
 
-ghost use Rattle.std.specs.Prelude.{◌≡◌, ◌+◌, ◌<◌, ◌^◌, drop, length, MatchResult, Ok, IfOk, IfErr, IfSome, IsTrue};
+ghost use Rattle.std.specs.Prelude.{◌≡◌, ◌+◌, ◌<◌, ◌^◌, ◌≤◌, Some, None, MatchOption, drop, length, MatchResult, Ok, IfOk, IfErr, IfSome, IsTrue};
 ghost use Rattle.script_grammar.specs.Tokens.{bytes_of};
 ghost use Rattle.js_parse.specs.declared.source.Stop.TheVariants as stop;
-ghost use Rattle.js_parse.specs.Next.{next_kind, first_bytes, reserved_kind, made, linked, signed};
+ghost use Rattle.js_parse.specs.Next.{next_kind, first_bytes, reserved_kind, made, linked, signed, text_next, literals, lit_ex};
 ghost use Rattle.script_parser.specs.Steps.{first, take};
-ghost use Rattle.script_parser.specs.Tests.{fixed, kept_as, name_of, word_of, is_some, sees, sees_word};
+ghost use Rattle.script_parser.specs.Tests.{fixed, kept_as, name_of, word_of, lit_of, is_some, sees, sees_word};
 ghost use Rattle.script_grammar.specs.Rules.{is_unary, level_of};
 ghost use Rattle.js_parse.specs.Reading.{toks, Fails, Reads};
-ghost use Rattle.script_tree.specs.View.{name_pair, word_of as word_view, view};
-ghost use Rattle.script_parser.specs.Parser.{literal as literal_rule};
+ghost use Rattle.script_tree.specs.View.{name_pair, word_of as word_view, view, nat_of};
+ghost use Rattle.script_text.specs.Lexical.{largest};
+ghost use Rattle.script_grammar.specs.Tokens.{Kept};
 ghost use Rattle.js_parse.specs.Lists.{suffix_next, Forward};
 
 use script_text::{Kind, Reserved, Sign, Token};
 use script_tree::{Expr, Label, Name};
 use sqlite_items::Items;
 use std::alloc::{AllocError, AllocFailed, Global};
+use value_model::{Safe, Text};
 
 /// Why the reading stopped, with the number of the token; at the end of the source that is their count.
 #[derive(Debug, Drop)]
@@ -237,11 +239,40 @@ impl Source<'_> {
         }
     }
 
+    /// The value of the text that comes next; `None` where none comes.
+    pub(crate) fn text(&self, alloc: Global, at: usize) -> Result<Option<Text>, Stop>
+        ensures is { IfOk result (λ o. o ≡ text_next (toks self.now.bytes.now self.now.tokens.now at)) }
+        ensures next { IfOk result (λ o. IfSome o (λ _. at + 1 < 2 ^ 64)) }
+        ensures memory { IfErr result (λ f. f ≡ stop.Memory) }
+    {
+        let _ = (alloc, at);
+        Err(Stop::Memory)
+    }
+
+    /// A literal.
+    #[tactic(auto, using(crate::proofs::Seen::literal_integer, crate::proofs::Seen::literal_big, crate::proofs::Seen::literal_name, crate::proofs::Seen::literal_sign, crate::proofs::Seen::literal_end, crate::proofs::Seen::literal_text, crate::proofs::Seen::literal_no_text, crate::proofs::Seen::literal_word, crate::proofs::Seen::literal_no_word, script_tree::proofs::Views::view_text, script_tree::proofs::Views::view_number))]
     pub(crate) fn literal(&self, alloc: Global, at: usize) -> Result<(Expr, usize), Stop>
-        ensures is { Reads view literal_rule self.now.bytes.now self.now.tokens.now at result }
+        ensures is { Reads view literals self.now.bytes.now self.now.tokens.now at result }
         ensures forward { Forward at result }
     {
-        Err(Stop::Memory)
+        let Some(kind) = self.kind(at) else {
+            return Err(Stop::Unexpected(at));
+        };
+        match kind {
+            Kind::Name | Kind::Sign(_) => Err(Stop::Unexpected(at)),
+            Kind::Integer(n) => match integer(n) {
+                Some(number) => Ok((Expr::Number(number), at + 1)),
+                None => Err(Stop::Unexpected(at)),
+            },
+            Kind::Text => match self.text(alloc, at)? {
+                Some(text) => Ok((Expr::Text(text), at + 1)),
+                None => Err(Stop::Unexpected(at)),
+            },
+            Kind::Reserved(word) => match word_literal(word) {
+                Some(literal) => Ok((literal, at + 1)),
+                None => Err(Stop::Unexpected(at)),
+            },
+        }
     }
 }
 
@@ -266,5 +297,29 @@ fn level_of(sign: Sign) -> usize
         Sign::And => 4,
         Sign::Or => 5,
         _ => 6,
+    }
+}
+
+/// The integer, where it is within its limit.
+fn integer(n: u64) -> Option<Safe>
+    ensures { MatchOption result (largest < n) (λ s. (nat_of s ≡ n) × (n ≤ largest)) }
+{
+    if n > 9_007_199_254_740_991 {
+        return None;
+    }
+    Safe::of(n as i64)
+}
+
+/// The literal that a word is.
+#[tactic(auto, using(script_tree::proofs::Views::view_true, script_tree::proofs::Views::view_false, script_tree::proofs::Views::view_null, script_tree::proofs::Views::view_undefined))]
+fn word_literal(word: Reserved) -> Option<Expr>
+    ensures { MatchOption result (None ≡ lit_ex (lit_of (Kept word))) (λ e. Some (view e) ≡ lit_ex (lit_of (Kept word))) }
+{
+    match word {
+        Reserved::True => Some(Expr::True),
+        Reserved::False => Some(Expr::False),
+        Reserved::Null => Some(Expr::Null),
+        Reserved::Undefined => Some(Expr::Undefined),
+        _ => None,
     }
 }
