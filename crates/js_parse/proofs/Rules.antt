@@ -1,5 +1,5 @@
 -- What each rule for expressions does at the next token and the levels that are left.
-use Rattle.std.proofs.Common.{◌≡◌, ◌≢◌, ℕ, zero, suc, ◌+◌, ◌-◌, ◌<◌, ◌≤◌, Bool, true, false, List, [], ◌∷◌, ◌++◌, length, drop, map, Option, Some, None, Ok, Err, refl, sym, ap, subst, ◌∙◌, arith, append_assoc}
+use Rattle.std.proofs.Common.{◌≡◌, ◌≢◌, ℕ, zero, suc, ◌+◌, ◌-◌, ◌<◌, ◌≤◌, Bool, true, false, List, [], ◌∷◌, ◌++◌, length, drop, map, Option, Some, None, Result, Ok, Err, refl, sym, ap, subst, ◌∙◌, arith, append_assoc}
 use Rattle.std.specs.Prelude.{if◌then◌else◌}
 use Rattle.script_text.specs.declared.sign.Sign.{Sign}
 use Rattle.script_text.specs.declared.sign.Sign.TheVariants.{OpenRound, OpenBrace, CloseBrace, OpenSquare, CloseSquare, Comma, Colon, Question}
@@ -20,7 +20,9 @@ use Rattle.script_tree.specs.declared.Expr.TheVariants as ex
 use Rattle.script_tree.proofs.Views.{view_unary}
 use Rattle.script_tree.specs.View.{view, chain_of, links_of, member_of, suffix_of, suffixes_of, prop_of, elems_of, props_of}
 use Rattle.js_parse.specs.Next.{made, linked, signed, literals}
-use Rattle.js_parse.specs.Reading.{toks}
+use Rattle.js_parse.specs.Reading.{toks, Reads}
+use Rattle.js_parse.specs.declared.source.Stop.{Stop}
+use Rattle.js_parse.specs.declared.source.Stop.TheVariants as stop
 use Rattle.js_parse.specs.Nests.{both, branches_rule}
 use Rattle.js_parse.specs.Lists.{links_before, onto_links, suffix_view, one_suffix, suffix_next, suffixes_before, onto_suffixes, elems_before, onto_elems, prop_view, one_prop, props_before, onto_props, one_link, props_at, prop_at, link_at, links_at, objected_at}
 use Rattle.js_parse.proofs.Seen.{read_some, read_none, sign_read}
@@ -354,3 +356,10 @@ unary_ok d bytes tokens at next s e n h c = unary_sign d bytes tokens at s n h �
 
 pub unary_err : (d : ℕ) (bytes : List ℕ) (tokens : List Token) (at : ℕ) (s : Sign) (x : Why × Toks) → d ≢ 0 → Some s ≡ signed (toks bytes tokens at) → unary (below (d - 1)) (toks bytes tokens (at + 1)) ≡ Err x → unary (below d) (toks bytes tokens at) ≡ Err x
 unary_err d bytes tokens at s x n h c = unary_sign d bytes tokens at s n h ∙ rw c refl
+
+-- what reads one rule reads another that does the same here
+pub reads_same : {T A : Type 0} (view : T → A) (p q : Parser A) (bytes : List ℕ) (tokens : List Token) (at : ℕ) (r : Result (T × ℕ) Stop) → p (toks bytes tokens at) ≡ q (toks bytes tokens at) → Reads view q bytes tokens at r → Reads view p bytes tokens at r
+reads_same view p q bytes tokens at (Ok x) e h = e ∙ h
+reads_same view p q bytes tokens at (Err stop.Memory) e h = h
+reads_same view p q bytes tokens at (Err (stop.Unexpected k)) e h = e ∙ h
+reads_same view p q bytes tokens at (Err (stop.TooNested k)) e h = e ∙ h

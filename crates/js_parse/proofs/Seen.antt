@@ -12,7 +12,7 @@ use Rattle.script_text.specs.Lexical.{largest}
 use Rattle.script_grammar.specs.Tokens.{Tok, Name, Kept, Integer, Text, Fixed, Other, Toks, bytes_of, text_value, as_text, seen_as, seen, seen_from}
 use Rattle.script_parser.specs.Steps.{Unexpected, Parser, taken, take as read, first}
 use Rattle.script_parser.specs.Tests.{code, fixed, kept_as, is_some, sees, sees_word, name_of, word_of, unary_of, link_of, begins_suffix, lit_of, text_of}
-use Rattle.js_parse.specs.Next.{next_kind, is_sign, is_word, is_name, reserved_kind, first_bytes, unary_kind, link_kind, made, linked, signed, text_next, literals, lit_ex}
+use Rattle.js_parse.specs.Next.{next_kind, is_sign, is_word, is_name, reserved_kind, first_bytes, unary_kind, link_kind, made, linked, signed, text_next, literals, lit_ex, small}
 use Rattle.js_parse.specs.Reading.{toks}
 use Rattle.js_parse.specs.Lists.{suffix_next}
 use Rattle.std.specs.Prelude.{◌||◌}
@@ -341,11 +341,25 @@ unfolding seen_from
 by_kind bytes k [] c h = absurd cc
 by_kind bytes k (t ∷ ts) c h = let same : t.kind ≡ c = cc in (bytes_of bytes t, ap (λ (c : Kind). Some (seen_as (bytes_of bytes t) k c)) same)
 
-pub literal_integer : (bytes : List ℕ) (tokens : List Token) (at n : ℕ) → Some (kind.Integer n) ≡ next_kind (drop at tokens) → n ≤ largest → literals (toks bytes tokens at) ≡ Ok (Literal (Number n), toks bytes tokens (at + 1))
-literal_integer bytes tokens at n h l = let f = by_kind bytes at (drop at tokens) (kind.Integer n) h in let e : nat_lt largest n ≡ false = grind (arith, nat_tests) in lit_some bytes tokens at (Number n) (rw (f.1, e) refl)
+integer_made : (n : ℕ) (b : Bool) → made lit_of (Some (if b then Other else Integer n)) ≡ (if b then None else Some (Number n))
+integer_made n true = refl
+integer_made n false = refl
 
-pub literal_big : (bytes : List ℕ) (tokens : List Token) (at n : ℕ) → Some (kind.Integer n) ≡ next_kind (drop at tokens) → largest < n → literals (toks bytes tokens at) ≡ Err (Unexpected, toks bytes tokens at)
-literal_big bytes tokens at n h l = let f = by_kind bytes at (drop at tokens) (kind.Integer n) h in let e : nat_lt largest n ≡ true = grind (arith, nat_tests) in lit_none (toks bytes tokens at) (rw (f.1, e) refl)
+pub literal_integer : (bytes : List ℕ) (tokens : List Token) (at n m : ℕ) → Some (kind.Integer n) ≡ next_kind (drop at tokens) → small n ≡ Some m → literals (toks bytes tokens at) ≡ Ok (Literal (Number m), toks bytes tokens (at + 1))
+unfolding small
+literal_integer bytes tokens at n m h l = let f = by_kind bytes at (drop at tokens) (kind.Integer n) h in go (nat_lt largest n) (rw f.1 (integer_made n (nat_lt largest n))) l
+  where
+    go : (b : Bool) → made lit_of (first (toks bytes tokens at)) ≡ (if b then None else Some (Number n)) → (if b then None else Some n) ≡ Some m → literals (toks bytes tokens at) ≡ Ok (Literal (Number m), toks bytes tokens (at + 1))
+    go true e l = absurd cc
+    go false e l = let same : n ≡ m = cc in lit_some bytes tokens at (Number m) (e ∙ ap (λ (k : ℕ). Some (Number k)) same)
+
+pub literal_big : (bytes : List ℕ) (tokens : List Token) (at n : ℕ) → Some (kind.Integer n) ≡ next_kind (drop at tokens) → small n ≡ None → literals (toks bytes tokens at) ≡ Err (Unexpected, toks bytes tokens at)
+unfolding small
+literal_big bytes tokens at n h l = let f = by_kind bytes at (drop at tokens) (kind.Integer n) h in go (nat_lt largest n) (rw f.1 (integer_made n (nat_lt largest n))) l
+  where
+    go : (b : Bool) → made lit_of (first (toks bytes tokens at)) ≡ (if b then None else Some (Number n)) → (if b then None else Some n) ≡ None → literals (toks bytes tokens at) ≡ Err (Unexpected, toks bytes tokens at)
+    go true e l = lit_none (toks bytes tokens at) e
+    go false e l = absurd cc
 
 pub literal_name : (bytes : List ℕ) (tokens : List Token) (at : ℕ) → Some kind.Name ≡ next_kind (drop at tokens) → literals (toks bytes tokens at) ≡ Err (Unexpected, toks bytes tokens at)
 literal_name bytes tokens at h = let f = by_kind bytes at (drop at tokens) kind.Name h in lit_none (toks bytes tokens at) (rw f.1 refl)

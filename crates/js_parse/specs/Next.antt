@@ -1,5 +1,5 @@
 -- The next token, as the code looks at it.
-use Rattle.std.specs.Prelude.{ℕ, Bool, true, false, if◌then◌else◌, ◌==◌, List, [], ◌∷◌, Option, Some, None}
+use Rattle.std.specs.Prelude.{ℕ, nat_lt, Bool, true, false, if◌then◌else◌, ◌==◌, List, [], ◌∷◌, Option, Some, None}
 use Rattle.script_text.specs.declared.sign.Sign.{Sign}
 use Rattle.script_text.specs.declared.word.Reserved.{Reserved}
 use Rattle.script_text.specs.Words.{word_code}
@@ -8,6 +8,7 @@ use Rattle.script_text.specs.declared.token.Kind.{Kind}
 use Rattle.script_text.specs.declared.token.Kind.TheVariants as kind
 use Rattle.script_grammar.specs.Tokens.{Tok, Toks, bytes_of}
 use Rattle.script_parser.specs.Steps.{first, Parser}
+use Rattle.script_text.specs.Lexical.{largest}
 use Rattle.script_grammar.specs.Rules.{is_unary, level_of}
 use Rattle.script_parser.specs.Tests.{code, link_of, unary_of, text_of}
 use Rattle.script_parser.specs.Parser.{literal}
@@ -69,3 +70,7 @@ literals ts = literal ts
 abbrev pub lit_ex : Option Lit → Option Ex
 lit_ex None = None
 lit_ex (Some l) = Some (Literal l)
+
+-- the integer, where it is within its limit
+unfoldable pub small : ℕ → Option ℕ
+small n = if nat_lt largest n then None else Some n

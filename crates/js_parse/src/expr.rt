@@ -1,9 +1,12 @@
 //! Expressions. Each rule takes the function that reads what stands one level down, so that each is proved by itself.
 
-ghost use Rattle.std.specs.Prelude.{◌≡◌, ◌<◌, ◌≤◌, ◌-◌, ◌+◌, ◌^◌, Some, IfOk};
+ghost use Rattle.std.specs.Prelude.{◌≡◌, ◌<◌, ◌≤◌, ◌-◌, ◌+◌, ◌^◌, Some, false, IfOk};
 ghost use Rattle.script_tree.specs.View.{view};
 ghost use Rattle.js_parse.specs.Reading.{toks, Reads};
 ghost use Rattle.js_parse.specs.Next.{linked};
+ghost use Rattle.script_parser.specs.Steps.{first};
+ghost use Rattle.script_parser.specs.Tests.{sees};
+ghost use Rattle.script_text.specs.declared.sign.Sign.TheVariants.{OpenRound, OpenSquare, OpenBrace};
 ghost use Rattle.js_parse.specs.Lists.{Forward, links_view, suffixes_view, one_suffix, elems_view, props_view, one_prop, one_link, links_at, link_at, props_at, prop_at, objected_at};
 ghost use Rattle.js_parse.specs.Nests.{Nests, rule, branches_view, branches_rule};
 ghost use Rattle.script_grammar.specs.Trees.{Choice};
@@ -244,6 +247,18 @@ impl<F: Fn(Global, Source<'_>, usize, usize, bool) -> Result<(Expr, usize), Stop
             let (object, at) = self.object(at)?;
             return Ok((object, at));
         }
+        self.word(at)
+    }
+
+    /// A name or a literal.
+    #[tactic(auto, using(crate::proofs::Rules::atom_name, crate::proofs::Rules::atom_other, script_tree::proofs::Views::view_name))]
+    fn word(&self, at: usize) -> Result<(Expr, usize), Stop>
+        requires round { sees OpenRound (first (toks self.now.source.bytes.now self.now.source.tokens.now at)) ≡ false }
+        requires square { sees OpenSquare (first (toks self.now.source.bytes.now self.now.source.tokens.now at)) ≡ false }
+        requires brace { sees OpenBrace (first (toks self.now.source.bytes.now self.now.source.tokens.now at)) ≡ false }
+        ensures is { Reads view (atom_rule (below self.now.depth)) self.now.source.bytes.now self.now.source.tokens.now at result }
+        ensures forward { Forward at result }
+    {
         if self.source.is_name(at) {
             let (name, at) = self.source.name(self.alloc, at)?;
             return Ok((Expr::Name(name), at));

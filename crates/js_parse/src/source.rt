@@ -3,13 +3,12 @@
 ghost use Rattle.std.specs.Prelude.{◌≡◌, ◌+◌, ◌<◌, ◌^◌, ◌≤◌, Some, None, MatchOption, drop, length, MatchResult, Ok, IfOk, IfErr, IfSome, IsTrue};
 ghost use Rattle.script_grammar.specs.Tokens.{bytes_of};
 ghost use Rattle.js_parse.specs.declared.source.Stop.TheVariants as stop;
-ghost use Rattle.js_parse.specs.Next.{next_kind, first_bytes, reserved_kind, made, linked, signed, text_next, literals, lit_ex};
+ghost use Rattle.js_parse.specs.Next.{next_kind, first_bytes, reserved_kind, made, linked, signed, text_next, literals, lit_ex, small};
 ghost use Rattle.script_parser.specs.Steps.{first, take};
 ghost use Rattle.script_parser.specs.Tests.{fixed, kept_as, name_of, word_of, lit_of, is_some, sees, sees_word};
 ghost use Rattle.script_grammar.specs.Rules.{is_unary, level_of};
 ghost use Rattle.js_parse.specs.Reading.{toks, Fails, Reads};
 ghost use Rattle.script_tree.specs.View.{name_pair, word_of as word_view, view, nat_of};
-ghost use Rattle.script_text.specs.Lexical.{largest};
 ghost use Rattle.script_grammar.specs.Tokens.{Kept};
 ghost use Rattle.js_parse.specs.Lists.{suffix_next, Forward};
 
@@ -301,8 +300,9 @@ fn level_of(sign: Sign) -> usize
 }
 
 /// The integer, where it is within its limit.
+#[tactic(auto, unfolding(crate::specs::Next::small))]
 fn integer(n: u64) -> Option<Safe>
-    ensures { MatchOption result (largest < n) (λ s. (nat_of s ≡ n) × (n ≤ largest)) }
+    ensures { MatchOption result (small n ≡ None) (λ s. small n ≡ Some (nat_of s)) }
 {
     if n > 9_007_199_254_740_991 {
         return None;
