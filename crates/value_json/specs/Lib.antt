@@ -1,3 +1,5 @@
 pub mod Gives
 pub mod Ranks
 pub mod Sound
+pub mod Sent
+pub mod Whole

@@ -5,16 +5,16 @@
 #![tactic(auto)]
 
 mod fault;
-mod patches_json;
-mod printing;
 mod ranked;
 mod reading;
+mod sending;
+mod sending_patches;
 mod texts;
 mod walk;
 
 pub use fault::JsonFault;
-pub use patches_json::{json_of_patches, json_of_path};
-pub use printing::{json_of_key, json_of_val};
+pub use sending::Printed;
+pub use sending_patches::PrintedPatches;
 pub use reading::{json_of_bytes, patches_of_json, path_of_json, val_of_json};
 pub use texts::{Text8, read_patches, read_path, read_value, write_patches, write_value};
 pub use value_text::JsonWhy;

@@ -7,9 +7,9 @@ ghost use Rattle.value_text.specs.Printing.{value_text};
 ghost use Rattle.value_text.specs.Reading.{value_of};
 
 use crate::fault::JsonFault;
-use crate::patches_json::json_of_patches;
-use crate::printing::val_json;
 use crate::reading::{json_of_bytes, patches_of_json, path_of_json, val_of_json};
+use crate::sending::Printed;
+use crate::sending_patches::PrintedPatches;
 use std::alloc::{AllocError, Global};
 use std::marker::Model;
 use values::{Patches, Path, Val};
@@ -71,8 +71,10 @@ pub fn write_value(alloc: Global, v: &Val) -> Result<Text8, AllocError>
     ensures text { IfOk result (λ t. t ≡ value_text v.now) }
     ensures reads_back { IfOk result (λ t. value_limit v.now ≡ None → value_of t ≡ Ok v.now) }
 {
-    let text = val_json(alloc, v)?.to_string(alloc)?;
-    Ok(Text8 { text })
+    match serde_json::to_string(alloc, &Printed { value: v }) {
+        Ok(text) => Ok(Text8 { text }),
+        Err(_) => Err(AllocError),
+    }
 }
 
 /// The compact JSON text of patches, each in the form of Immer 10.
@@ -80,6 +82,8 @@ pub fn write_value(alloc: Global, v: &Val) -> Result<Text8, AllocError>
 pub fn write_patches(alloc: Global, patches: &Patches) -> Result<Text8, AllocError>
     ensures { IfOk result (λ t. t ≡ patches_text patches.now) }
 {
-    let text = json_of_patches(alloc, patches)?.to_string(alloc)?;
-    Ok(Text8 { text })
+    match serde_json::to_string(alloc, &PrintedPatches { patches }) {
+        Ok(text) => Ok(Text8 { text }),
+        Err(_) => Err(AllocError),
+    }
 }

@@ -119,10 +119,9 @@ fn marks_in(alloc: Global, items: &[Value]) -> Result<BTreeMap<Ranked, ()>, Json
         let key = Ranked {
             key: key_in(alloc, item)?,
         };
-        if found.contains_key(&key) {
+        if found.insert(key, ())?.is_some() {
             return Err(JsonFault::Refused(JsonWhy::DuplicateKey));
         }
-        found.insert(key, ())?;
     }
     Ok(found)
 }

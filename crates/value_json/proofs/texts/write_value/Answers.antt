@@ -1,16 +1,28 @@
-use Rattle.std.proofs.Common.{ap, ◌∙◌, ◌≤◌}
+use Rattle.std.proofs.Common.{◌≡◌, ap, ◌∙◌}
 use Rattle.std.proofs.lemmas.Str.{IsUtf8-string_bytes}
-use Rattle.serde_json.specs.Data.{depth}
-use Rattle.serde_json.specs.View.{view}
+use Rattle.serde_json.proofs.FreeTexts.{text_of_value}
+use Rattle.serde_json.specs.Read.{read}
+use Rattle.value_text.proofs.NoFloat.{val_no_float}
+use Rattle.value_text.specs.Printing.{val_data, value_text}
 use Rattle.value_text.specs.Reading.{read_by, val_from}
+use Rattle.value_json.proofs.ReadBack.{read_back}
 use Rattle.value_json.proofs.RoundTrip.{val_back, accepted_levels}
 use Rattle.value_json.proofs.Utf8.{json_some}
+use Rattle.value_json.proofs.WholeValues.{whole}
 use Rattle.value_json.proofs.texts.write_value.Goals as goal
 
-pub returns-clause-reads_back : goal.returns-clause-reads_back
-returns-clause-reads_back c =
+pub returns-in-Ok-clause-text : goal.returns-in-Ok-clause-text
+returns-in-Ok-clause-text c =
+    let sent = c.in-Ok.ensures.events in
+    let v = c.args.v.now in
+    text_of_value (val_data v) sent.0 c.in-Ok.text.bytes.items sent.1.0 sent.2 (val_no_float v)
+
+pub returns-in-Ok-clause-reads_back : goal.returns-in-Ok-clause-reads_back
+returns-in-Ok-clause-reads_back c =
     λ accepted.
-    let shown = c.in_ok-val_json.ensures.json in
-    let shallow : depth (view c.in_ok-val_json.field-0) ≤ 127 = rw shown (accepted_levels c.args.v.now accepted) in
-    let found = json_some c.in_ok-text.text.bytes.items _ (IsUtf8-string_bytes c.in_ok-text.text) (c.in_ok-text.ensures.reads_back shallow) in
-    ap (read_by val_from) found ∙ ap val_from shown ∙ val_back c.args.v.now c.in_ok-val_json.ensures.sound accepted
+    let sent = c.in-Ok.ensures.events in
+    let v = c.args.v.now in
+    let text = c.in-Ok.text.bytes.items in
+    let same : text ≡ value_text v = text_of_value (val_data v) sent.0 text sent.1.0 sent.2 (val_no_float v) in
+    let found = json_some text _ (IsUtf8-string_bytes c.in-Ok.text) (ap read same ∙ read_back (val_data v) (whole v sent.1.1) (accepted_levels v accepted)) in
+    ap (read_by val_from) found ∙ val_back v sent.1.1 accepted

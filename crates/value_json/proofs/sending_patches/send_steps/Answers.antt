@@ -1,0 +1,20 @@
+use Rattle.std.proofs.Common.{◌≡◌, [], map, drop, Some, sym, subst, arith}
+use Rattle.std.proofs.lemmas.List.{drop_all}
+use Rattle.std.proofs.lemmas.Result.{on_ok_weaker}
+use Rattle.serde.specs.Event.{Logs, seq_begins}
+use Rattle.serde_json.specs.Events.{SendsItems}
+use Rattle.serde_json.specs.View.{items_of}
+use Rattle.value_json.proofs.Lengths.{mapped_len}
+use Rattle.value_text.specs.Patches as text
+use Rattle.value_text.specs.Printing.{key_data}
+use Rattle.value_json.proofs.sending_patches.send_steps.Goals as goal
+
+pub returns : goal.returns
+unfolding text.path_data
+returns g c =
+    let all = c.args.steps.now in
+    let first = g.S.Serializer.written c.begin_seq.new.self in
+    let end = g.S.Serializer.written c.end_seq.new.self in
+    let begun = subst (λ n. Logs (g.S.Serializer.written c.args.out.now) first (seq_begins (Some n))) (mapped_len key_data all) c.in_ok-begin_seq.ensures in
+    let none : drop c.loop-key.key-index all ≡ [] = drop_all c.loop-key.key-index all (omega arith) in
+    on_ok_weaker c.end_seq.result (λ e. (first, begun, c.loop-key.invariant end (subst (λ ps. SendsItems (items_of (map key_data ps)) (g.S.Serializer.written c.loop-key.out) end) (sym none) e))) c.end_seq.ensures
