@@ -15,6 +15,8 @@ mod walk;
 pub use fault::JsonFault;
 pub use patches_json::{json_of_patches, json_of_path};
 pub use printing::{json_of_key, json_of_val};
-pub use reading::{json_of_bytes, patches_of_json, path_of_json, val_of_json};
+pub use reading::{
+    is_patch_list, is_path, json_of_bytes, patches_of_json, path_of_json, val_of_json,
+};
 pub use texts::{Text8, read_patches, read_path, read_value, write_patches, write_value};
 pub use value_text::JsonWhy;
