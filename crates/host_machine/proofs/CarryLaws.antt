@@ -29,7 +29,7 @@ use Rattle.patch_meaning.specs.Applying.{Fault, applied, applied_from, fault_at,
 use Rattle.host_machine.specs.Carries.{IsSound, Carries, CarriesBy}
 use Rattle.host_machine.specs.Differences.{differences}
 use Rattle.host_machine.specs.Flat.{is_integer, is_text_key, is_field_key, is_flat_table, is_flat, is_flat_path, is_flat_value, is_flat_patch, are_flat, is_built}
-use Rattle.host_machine.specs.Machine.{Machine, value, table_of, writes, refused, accepted, no_patches, between, with_state, is_full, is_heavy, changed, judged, apply_step, state_shown, node_shown, counts, step}
+use Rattle.host_machine.specs.Machine.{Machine, value, table_of, writes, refused, accepted, no_patches, between, with_state, is_full, is_heavy, changed, judged, apply_step, state_shown, node_shown, step}
 use Rattle.host_machine.specs.Paths.{subtree_at}
 use Rattle.host_machine.proofs.PatchLaws.{carries_table}
 use Rattle.host_machine.proofs.StepLaws.{applied_flat}
@@ -40,7 +40,7 @@ state es = node kind.Obj (entries es)
 abbrev Sorted : Table → Type 0
 Sorted es = IsTrue (is_sorted key_cmp es)
 
-abbrev Flat : Table → Type 0
+abbrev pub Flat : Table → Type 0
 Flat es = IsTrue (is_flat_table es)
 
 both : (a b : Bool) → IsTrue a → IsTrue b → IsTrue (a && b)
@@ -59,7 +59,7 @@ put_at k w e es Less p f g h ih = rw p (both _ _ (both _ _ f g) h)
 put_at k w e es Equal p f g h ih = rw p (both _ _ (both _ _ (left_true (is_field_key e.0) (is_integer e.1) (flat_head e es h)) g) (flat_tail e es h))
 put_at k w e es Greater p f g h ih = rw p (both _ _ (flat_head e es h) ih)
 
-flat_put : (k : Key) (w : Plain) (es : Table) → IsTrue (is_field_key k) → IsTrue (is_integer w) → Flat es → Flat (put key_cmp k w es)
+pub flat_put : (k : Key) (w : Plain) (es : Table) → IsTrue (is_field_key k) → IsTrue (is_integer w) → Flat es → Flat (put key_cmp k w es)
 flat_put k w [] f g h = both _ _ (both _ _ f g) refl
 flat_put k w (e ∷ es) f g h = put_at k w e es (key_cmp k e.0) refl f g h (flat_put k w es f g (flat_tail e es h))
 
@@ -67,7 +67,7 @@ kept_at : (b : Bool) (e : Key × Plain) (es rest : Table) → Flat (e ∷ es) �
 kept_at true e es rest h ih = both _ _ (flat_head e es h) ih
 kept_at false e es rest h ih = ih
 
-flat_without : (k : Key) (es : Table) → Flat es → Flat (without_key k es)
+pub flat_without : (k : Key) (es : Table) → Flat es → Flat (without_key k es)
 flat_without k [] h = refl
 flat_without k (e ∷ es) h = kept_at (not (eq_by_cmp key_cmp k e.0)) e es (without_key k es) h (flat_without k es (flat_tail e es h))
 
@@ -76,7 +76,7 @@ record IsGood (t : Table) : Type 0 where
   sorted : Sorted t
   flat : Flat t
 
-text_field : (s : List ℕ) → is_reserved_text s ≡ false → is_long_key (key.Text s) ≡ false → IsTrue (is_field_key (key.Text s))
+pub text_field : (s : List ℕ) → is_reserved_text s ≡ false → is_long_key (key.Text s) ≡ false → IsTrue (is_field_key (key.Text s))
 text_field s r l = rw (r, l) refl
 
 set_good : (s : List ℕ) (w : Plain) (es t : Table) (a b : Bool) → is_reserved_text s ≡ a → is_long_key (key.Text s) ≡ b → IsTrue (is_integer w) → IsGood es

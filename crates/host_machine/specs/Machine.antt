@@ -123,15 +123,15 @@ node_shown m None = no_path m word.Node
 node_shown m (Some t) = (m, reply.Node (number_if t))
 
 -- no change is taken back yet, and no session is begun
-abbrev pub counts : Machine → Reply
-counts m = reply.Stat (m.next - 1) 0 m.seq 0 m.past m.used
+abbrev pub counted : Machine → Machine × Reply
+counted m = (m, reply.Stat (m.next - 1) 0 m.seq 0 m.past m.used)
 
 -- what a command makes of the machine, and its reply
 abbrev pub step : Machine → Command → Machine × Reply
 step m (command.Apply patches) = apply_step m patches
 step m (command.State path) = state_shown m (at path (value m))
 step m (command.Node path) = node_shown m (subtree_at path m.state)
-step m command.Stat = (m, counts m)
+step m command.Stat = counted m
 
 -- a host: its machine, and how many commands it has taken
 pub record Turned : Type 0 where
