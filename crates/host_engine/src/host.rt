@@ -1,14 +1,19 @@
-ghost use Rattle.std.specs.Prelude.{◌≡◌, ◌≤◌, ◌<◌, ◌+◌, ◌^◌, IfOk, IfErr, IsTrue, Some, None, min, false};
+ghost use Rattle.std.specs.Prelude.{◌≡◌, ◌≤◌, ◌<◌, ◌+◌, ◌^◌, IfOk, IfErr, IsTrue, Some, None, min, false, option_map};
 ghost use Rattle.value_model.specs.Limits.{state_limit};
 ghost use Rattle.value_model.specs.Plain.{weight as weight_of};
-ghost use Rattle.host_machine.specs.Flat.{is_flat, is_built, are_flat};
-ghost use Rattle.host_machine.specs.Machine.{opened, step, apply_step, changed, accepted, refused as refused_by, no_patches, between, with_state, is_full as is_full_of, is_heavy as is_heavy_of};
+ghost use Rattle.host_machine.specs.Flat.{is_flat, is_flat_table, is_built, are_flat};
+ghost use Rattle.numbered.specs.Tree.{number};
+ghost use Rattle.plain_values.specs.declared.command.Word.TheVariants as word;
+ghost use Rattle.plain_values.specs.declared.reply.Reply.TheVariants as reply;
+ghost use Rattle.value_model.specs.Places.{at};
+ghost use Rattle.host_machine.specs.Paths.{subtree_at};
+ghost use Rattle.host_machine.specs.Machine.{value, opened, no_path, state_shown, node_shown, number_if, counted, step, apply_step, changed, accepted, refused as refused_by, no_patches, between, with_state, is_full as is_full_of, is_heavy as is_heavy_of};
 ghost use Rattle.host_engine.specs.Kept.{state_of};
 
 use crate::edits::{ApplyStop, edit_all};
 use crate::pairs::{differences, patches_weight};
 use crate::table::Table;
-use plain_values::{Command, Pair, Patches, Refusal, Reply, Val, Word};
+use plain_values::{Command, Pair, Patches, Path, Refusal, Reply, Val, Word};
 use std::alloc::{AllocError, Global};
 use std::marker::Model;
 
@@ -20,6 +25,9 @@ const MAX_NUMBER: u64 = 1 << 21;
 
 /// What all states that were given a number may weigh together.
 const MAX_USED: u64 = 1 << 25;
+
+/// How many past changes are kept.
+const MAX_PAST: u64 = 100;
 
 /// What the patches of a change may weigh, there and back together.
 const MAX_PATCHES: u64 = 1 << 22;
@@ -34,23 +42,25 @@ pub struct Host {
     root: u64,
     next: u64,
     used: u64,
+    past: u64,
     seq: u64,
     turns: u64,
 }
 
 impl Model for Host {
     ghost use Rattle.std.specs.Coded.{codes};
-    ghost use Rattle.value_model.specs.Code.{coded_plain};
+    ghost use Rattle.numbered.specs.Code.{coded_tree};
+    ghost use Rattle.numbered.specs.Loading.{numbered};
     ghost use Rattle.host_machine.specs.Machine.{Turned};
     ghost use Rattle.host_engine.specs.Kept.{IsKept, state_of};
 
     ghost Value = { Turned };
 
-    ghost coded = { Prim.hlevel (codes, coded_plain) };
+    ghost coded = { Prim.hlevel (codes, coded_tree) };
 
-    ghost view = { λ h. record { machine = record { state = state_of h.table; root = h.root; next = h.next; used = h.used; seq = h.seq }; turns = h.turns } };
+    ghost view = { λ h. record { machine = record { state = numbered h.root (state_of h.table); next = h.next; used = h.used; past = h.past; seq = h.seq }; turns = h.turns } };
 
-    ghost invariant = { λ h. IsKept h.table h.weight h.next h.used h.seq h.turns };
+    ghost invariant = { λ h. IsKept h.table h.weight h.next h.used h.past h.seq h.turns };
 }
 
 impl Host {
@@ -69,6 +79,7 @@ impl Host {
             root: 1,
             next: 2,
             used: weight,
+            past: 0,
             seq: 0,
             turns: 0,
         })
@@ -91,6 +102,9 @@ impl Host {
     {
         match command {
             Command::Apply { patches } => self.apply(alloc, patches),
+            Command::State { path } => self.state(alloc, path),
+            Command::Node { path } => self.node(alloc, path),
+            Command::Stat => Ok(self.stat()),
         }
     }
 
@@ -110,6 +124,95 @@ impl Host {
             Err(ApplyStop::At { at, why }) => Ok(self.refused(Some(at), Refusal::of_patch(why))),
             Err(ApplyStop::Memory) => Err(self),
         }
+    }
+
+    /// Shows what stands at a path.
+    fn state(self, alloc: Global, path: Path) -> Result<(Host, Reply), Host>
+        requires turns { self.turns < 2 ^ 48 }
+        ensures step { IfOk result (λ r. (r.0.machine, r.1) ≡ state_shown self.machine (at path (value self.machine))) }
+        ensures turns { IfOk result (λ r. r.0.turns ≡ self.turns + 1) }
+        ensures err { IfErr result (λ h. h ≡ self) }
+    {
+        match self.value_at(alloc, &path) {
+            Ok(Some(value)) => Ok((self.turned(), Reply::State { value })),
+            Ok(None) => Ok(self.unfound(Word::State)),
+            Err(_) => Err(self),
+        }
+    }
+
+    /// What stands at a path.
+    fn value_at(&self, alloc: Global, path: &Path) -> Result<Option<Val>, AllocError>
+        ensures { IfOk result (λ v. v ≡ at path.now (value self.now.machine)) }
+    {
+        self.table.value_at(alloc, path)
+    }
+
+    /// Shows the number of what stands at a path.
+    fn node(self, alloc: Global, path: Path) -> Result<(Host, Reply), Host>
+        requires turns { self.turns < 2 ^ 48 }
+        ensures step { IfOk result (λ r. (r.0.machine, r.1) ≡ node_shown self.machine (subtree_at path self.machine.state)) }
+        ensures turns { IfOk result (λ r. r.0.turns ≡ self.turns + 1) }
+        ensures err { IfErr result (λ h. h ≡ self) }
+    {
+        match self.number_at(alloc, &path) {
+            Ok(Some(node)) => Ok((self.turned(), Reply::Node { node })),
+            Ok(None) => Ok(self.unfound(Word::Node)),
+            Err(_) => Err(self),
+        }
+    }
+
+    /// The number of the container at a path, or None within where a primitive stands there.
+    fn number_at(&self, alloc: Global, path: &Path) -> Result<Option<Option<u64>>, AllocError>
+        ensures { IfOk result (λ n. n ≡ option_map number_if (subtree_at path.now self.now.machine.state)) }
+    {
+        let root = self.root;
+        if path.as_slice().len() == 0 {
+            return Ok(Some(Some(root)));
+        }
+        if self.table.has_place(alloc, path)? {
+            Ok(Some(None))
+        } else {
+            Ok(None)
+        }
+    }
+
+    /// What the host counts.
+    fn stat(self) -> (Host, Reply)
+        requires { self.turns < 2 ^ 48 }
+        ensures step { (result.0.machine, result.1) ≡ counted self.machine }
+        ensures turns { result.0.turns ≡ self.turns + 1 }
+    {
+        let reply = Reply::Stat {
+            nodes: self.next - 1,
+            redo: 0,
+            seq: self.seq,
+            sessions: 0,
+            undo: self.past,
+            used: self.used,
+        };
+        (self.turned(), reply)
+    }
+
+    /// The host after a command that read it.
+    fn turned(self) -> Host
+        requires { self.turns < 2 ^ 48 }
+        ensures machine { result.machine ≡ self.machine }
+        ensures turns { result.turns ≡ self.turns + 1 }
+    {
+        let mut host = self;
+        host.turns += 1;
+        host
+    }
+
+    /// The host after a path that leads nowhere.
+    fn unfound(self, word: Word) -> (Host, Reply)
+        requires { self.turns < 2 ^ 48 }
+        ensures step { (result.0.machine, result.1) ≡ no_path self.machine word }
+        ensures turns { result.0.turns ≡ self.turns + 1 }
+    {
+        let at = None;
+        let why = Refusal::NoPath;
+        (self.turned(), Reply::No { word, at, why })
     }
 
     /// A change to the state of a table, judged by the limits.
@@ -145,7 +248,7 @@ impl Host {
 
     /// The patches to the state of a table, and back.
     fn pair_to(&self, alloc: Global, table: &Table) -> Result<Pair, AllocError>
-        ensures { IfOk result (λ p. p ≡ between self.now.machine.state (state_of table.now)) }
+        ensures { IfOk result (λ p. p ≡ between (value self.now.machine) (state_of table.now)) }
     {
         Ok(Pair {
             forward: differences(alloc, &self.table, table)?,
@@ -159,10 +262,8 @@ impl Host {
         ensures step { (result.0.machine, result.1) ≡ refused_by self.machine at why }
         ensures turns { result.0.turns ≡ self.turns + 1 }
     {
-        let mut host = self;
-        host.turns += 1;
         let word = Word::Apply;
-        (host, Reply::No { word, at, why })
+        (self.turned(), Reply::No { word, at, why })
     }
 
     /// The host after a command that changed nothing.
@@ -171,28 +272,29 @@ impl Host {
         ensures step { (result.0.machine, result.1) ≡ accepted self.machine no_patches }
         ensures turns { result.0.turns ≡ self.turns + 1 }
     {
-        let mut host = self;
-        host.turns += 1;
-        let root = host.root;
-        let seq = host.seq;
-        let word = Word::Apply;
+        let host = self.turned();
         let forward = Patches::from_vec(Vec::new(alloc));
         let inverse = Patches::from_vec(Vec::new(alloc));
-        let pair = Pair { forward, inverse };
-        (
-            host,
-            Reply::Changed {
-                word,
-                pair,
-                root,
-                seq,
-            },
-        )
+        let reply = host.accepted(Pair { forward, inverse });
+        (host, reply)
+    }
+
+    /// The reply to an accepted command with these patches.
+    fn accepted(&self, pair: Pair) -> Reply
+        ensures { result ≡ reply.Changed word.Apply pair (number self.now.machine.state) self.now.machine.seq }
+    {
+        Reply::Changed {
+            word: Word::Apply,
+            pair,
+            root: self.root,
+            seq: self.seq,
+        }
     }
 
     /// The host after a change: the state of the table has the next number.
     fn changed(self, table: Table, weight: u64, pair: Pair) -> (Host, Reply)
         requires turns { self.turns < 2 ^ 48 }
+        requires flat { IsTrue (is_flat_table table) }
         requires weight { weight ≡ weight_of (state_of table) }
         requires small { weight ≤ 2 ^ 20 }
         requires room { is_full_of self.machine weight ≡ false }
@@ -205,20 +307,11 @@ impl Host {
         host.root = host.next;
         host.next += 1;
         host.used += weight;
+        host.past = (host.past + 1).min(MAX_PAST);
         host.seq += 1;
         host.turns += 1;
-        let root = host.root;
-        let seq = host.seq;
-        let word = Word::Apply;
-        (
-            host,
-            Reply::Changed {
-                word,
-                pair,
-                root,
-                seq,
-            },
-        )
+        let reply = host.accepted(pair);
+        (host, reply)
     }
 }
 

@@ -1,4 +1,4 @@
-ghost use Rattle.std.specs.Prelude.{◌≡◌, ◌≤◌, ◌^◌, ◌+◌, [], min, map, length, IfOk, IsTrue, Some, None, not, option_map};
+ghost use Rattle.std.specs.Prelude.{◌≡◌, ◌≤◌, ◌^◌, ◌+◌, [], min, map, length, IfOk, IsTrue, Some, None, not, option_map, is_some};
 ghost use Rattle.std.specs.FinMap.Entries.{find, put, is_sorted};
 ghost use Rattle.value_model.specs.Order.{key_cmp};
 ghost use Rattle.value_model.specs.Places.{without_key};
@@ -7,16 +7,18 @@ ghost use Rattle.value_model.specs.Search.{IsPlace};
 ghost use Rattle.value_model.specs.declared.key.Key.TheVariants as key;
 ghost use Rattle.value_model.specs.declared.words.Kind.TheVariants as kind;
 ghost use Rattle.host_machine.specs.Differences.{same, same_table};
-ghost use Rattle.host_machine.specs.Flat.{is_flat, is_flat_table};
+ghost use Rattle.value_model.specs.Places as spec;
+ghost use Rattle.host_machine.specs.Flat.{is_field_key, is_flat, is_flat_table};
 ghost use Rattle.values.specs.Seen.{of_field as of_object_field};
 ghost use Rattle.host_engine.specs.Kept.{of_field, number_of, state_of};
 
 use crate::edits::integer_in;
 use crate::name::Name;
-use plain_values::{Field as ObjField, Node, Safe, Text, Val};
+use plain_values::{Field as ObjField, Key, Node, Path, Safe, Text, Val};
 use std::alloc::{AllocError, Global};
 use std::cmp::Ordering;
 use std::marker::Model;
+use value_checks::at;
 
 /// An integer under its name.
 #[derive(Drop)]
@@ -49,7 +51,12 @@ impl Model for Table {
 
     ghost view = { λ t. map of_field t.fields.items };
 
-    ghost invariant = { λ t. IsTrue (is_sorted key_cmp (map of_field t.fields.items)) };
+    ghost use Rattle.host_machine.specs.Flat.{is_flat_table};
+
+    ghost invariant = { λ t. record {
+      sorted : IsTrue (is_sorted key_cmp (map of_field t.fields.items));
+      flat : IsTrue (is_flat_table (map of_field t.fields.items));
+    } };
 }
 
 impl Table {
@@ -84,23 +91,55 @@ impl Table {
         })
     }
 
+    /// The object of these entries.
+    pub fn to_value(&self, alloc: Global) -> Result<Val, AllocError>
+        ensures { IfOk result (λ v. v ≡ state_of self.now) }
+    {
+        let fields = object_fields(alloc, &self.fields)?;
+        Ok(Val {
+            node: Node::Obj(fields),
+        })
+    }
+
+    /// What stands at a path of that object.
+    pub fn value_at(&self, alloc: Global, path: &Path) -> Result<Option<Val>, AllocError>
+        ensures { IfOk result (λ v. v ≡ spec.at path.now (state_of self.now)) }
+    {
+        let object = self.to_value(alloc)?;
+        match at(&object, path) {
+            Some(value) => Ok(Some(value.copy(alloc)?)),
+            None => Ok(None),
+        }
+    }
+
+    /// Whether something stands at a path of that object.
+    pub fn has_place(&self, alloc: Global, path: &Path) -> Result<bool, AllocError>
+        ensures { IfOk result (λ b. b ≡ is_some (spec.at path.now (state_of self.now))) }
+    {
+        let object = self.to_value(alloc)?;
+        Ok(at(&object, path).is_some())
+    }
+
     /// The entries in the order of their names.
     pub fn fields(&self) -> &[Field]
         ensures value { map of_field result.now ≡ self.now }
         ensures ascending { IsTrue (is_sorted key_cmp self.now) }
+        ensures flat { IsTrue (is_flat_table self.now) }
     {
         self.fields.as_slice()
     }
 
     /// What the object of these entries weighs, or 2^63 where that is more.
     pub fn weight(&self) -> u64
-        ensures { result ≡ min (weight_of (state_of self.now)) (2 ^ 63) }
+        ensures flat { IsTrue (is_flat_table self.now) }
+        ensures value { result ≡ min (weight_of (state_of self.now)) (2 ^ 63) }
     {
         fields_weight(&self.fields).saturating_add(1).min(1 << 63)
     }
 
     /// Sets a name to a number, and says whether that changed the table.
     pub fn set(&mut self, name: Name, number: Safe) -> Result<bool, AllocError>
+        requires { IsTrue (is_field_key (key.Text name)) }
         ensures table { IfOk result (λ _. self.new ≡ put key_cmp (key.Text name) (prim (key.Int number)) self.old) }
         ensures wrote { IfOk result (λ w. w ≡ not (same_table self.old self.new)) }
     {
@@ -146,6 +185,19 @@ fn copy_fields(alloc: Global, fields: &Vec<Field>) -> Result<Vec<Field>, AllocEr
     Ok(out)
 }
 
+fn object_fields(alloc: Global, fields: &[Field]) -> Result<Vec<ObjField>, AllocError>
+    ensures { IfOk result (λ w. map of_object_field w.items ≡ map of_field fields.now) }
+{
+    let mut out = Vec::with_capacity(alloc, fields.len())?;
+    for f in fields {
+        out.push(ObjField {
+            key: f.name.text().copy(alloc)?,
+            value: Val::primitive(Key::Int(f.number)),
+        })?;
+    }
+    Ok(out)
+}
+
 fn fields_weight(fields: &[Field]) -> u64
     ensures { result ≡ min (weights kind.Obj (entries (map of_field fields.now))) (2 ^ 63) }
 {
@@ -165,10 +217,13 @@ fn capped(total: u64, bytes: u64) -> u64
 }
 
 fn put_field(fields: &mut Vec<Field>, name: Name, number: Safe) -> Result<bool, AllocError>
-    requires { IsTrue (is_sorted key_cmp (map of_field fields.old.items)) }
+    requires sorted { IsTrue (is_sorted key_cmp (map of_field fields.old.items)) }
+    requires flat { IsTrue (is_flat_table (map of_field fields.old.items)) }
+    requires name { IsTrue (is_field_key (key.Text name)) }
     ensures table { IfOk result (λ _. map of_field fields.new.items ≡ put key_cmp (key.Text name) (prim (key.Int number)) (map of_field fields.old.items)) }
     ensures wrote { IfOk result (λ w. w ≡ not (same_table (map of_field fields.old.items) (map of_field fields.new.items))) }
     ensures sorted { IsTrue (is_sorted key_cmp (map of_field fields.new.items)) }
+    ensures flat { IsTrue (is_flat_table (map of_field fields.new.items)) }
 {
     match place_of(fields, name.text()) {
         Ok(at) => {
@@ -196,10 +251,12 @@ fn compare_numbers(a: Safe, b: Safe) -> Ordering
 }
 
 fn remove_field(fields: &mut Vec<Field>, name: &Text) -> bool
-    requires { IsTrue (is_sorted key_cmp (map of_field fields.old.items)) }
+    requires sorted { IsTrue (is_sorted key_cmp (map of_field fields.old.items)) }
+    requires flat { IsTrue (is_flat_table (map of_field fields.old.items)) }
     ensures table { map of_field fields.new.items ≡ without_key (key.Text name.now) (map of_field fields.old.items) }
     ensures wrote { result ≡ not (same_table (map of_field fields.old.items) (map of_field fields.new.items)) }
     ensures sorted { IsTrue (is_sorted key_cmp (map of_field fields.new.items)) }
+    ensures flat { IsTrue (is_flat_table (map of_field fields.new.items)) }
 {
     match place_of(fields, name) {
         Ok(at) => {

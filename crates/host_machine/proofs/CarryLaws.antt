@@ -13,12 +13,14 @@ use Rattle.value_model.specs.declared.words.PatchWhy.{PatchWhy}
 use Rattle.value_model.specs.declared.words.PatchWhy.TheVariants as why
 use Rattle.value_model.specs.Limits.{is_long_key, is_reserved_text}
 use Rattle.value_model.specs.Order.{key_cmp}
-use Rattle.value_model.specs.Places.{without_key}
+use Rattle.value_model.specs.Places.{without_key, at}
 use Rattle.value_model.specs.Plain.{Plain, Table, Entries, prim, node, none, entries, list_of, weight}
 use Rattle.value_model.specs.Search.{left_true, right_true}
 use Rattle.value_model.specs.Steps.{list_of_entries, entries-list_of}
 use Rattle.value_model.specs.Tables.{put_ascends, without_ascends}
 use Rattle.values.specs.declared.patch.Patch.{Patch}
+use Rattle.numbered.specs.Tree.{Tree, plain}
+use Rattle.numbered.specs.Laws.{plain_numbered}
 use Rattle.plain_values.specs.declared.command.Command.{Command}
 use Rattle.plain_values.specs.declared.command.Command.TheVariants as command
 use Rattle.plain_values.specs.declared.refusal.Refusal.TheVariants as refusal
@@ -27,7 +29,8 @@ use Rattle.patch_meaning.specs.Applying.{Fault, applied, applied_from, fault_at,
 use Rattle.host_machine.specs.Carries.{IsSound, Carries, CarriesBy}
 use Rattle.host_machine.specs.Differences.{differences}
 use Rattle.host_machine.specs.Flat.{is_integer, is_text_key, is_field_key, is_flat_table, is_flat, is_flat_path, is_flat_value, is_flat_patch, are_flat, is_built}
-use Rattle.host_machine.specs.Machine.{Machine, table_of, writes, refused, accepted, no_patches, between, with_state, is_full, is_heavy, changed, judged, apply_step, step}
+use Rattle.host_machine.specs.Machine.{Machine, value, table_of, writes, refused, accepted, no_patches, between, with_state, is_full, is_heavy, changed, judged, apply_step, state_shown, node_shown, step}
+use Rattle.host_machine.specs.Paths.{subtree_at}
 use Rattle.host_machine.proofs.PatchLaws.{carries_table}
 use Rattle.host_machine.proofs.StepLaws.{applied_flat}
 
@@ -37,7 +40,7 @@ state es = node kind.Obj (entries es)
 abbrev Sorted : Table → Type 0
 Sorted es = IsTrue (is_sorted key_cmp es)
 
-abbrev Flat : Table → Type 0
+abbrev pub Flat : Table → Type 0
 Flat es = IsTrue (is_flat_table es)
 
 both : (a b : Bool) → IsTrue a → IsTrue b → IsTrue (a && b)
@@ -56,7 +59,7 @@ put_at k w e es Less p f g h ih = rw p (both _ _ (both _ _ f g) h)
 put_at k w e es Equal p f g h ih = rw p (both _ _ (both _ _ (left_true (is_field_key e.0) (is_integer e.1) (flat_head e es h)) g) (flat_tail e es h))
 put_at k w e es Greater p f g h ih = rw p (both _ _ (flat_head e es h) ih)
 
-flat_put : (k : Key) (w : Plain) (es : Table) → IsTrue (is_field_key k) → IsTrue (is_integer w) → Flat es → Flat (put key_cmp k w es)
+pub flat_put : (k : Key) (w : Plain) (es : Table) → IsTrue (is_field_key k) → IsTrue (is_integer w) → Flat es → Flat (put key_cmp k w es)
 flat_put k w [] f g h = both _ _ (both _ _ f g) refl
 flat_put k w (e ∷ es) f g h = put_at k w e es (key_cmp k e.0) refl f g h (flat_put k w es f g (flat_tail e es h))
 
@@ -64,7 +67,7 @@ kept_at : (b : Bool) (e : Key × Plain) (es rest : Table) → Flat (e ∷ es) �
 kept_at true e es rest h ih = both _ _ (flat_head e es h) ih
 kept_at false e es rest h ih = ih
 
-flat_without : (k : Key) (es : Table) → Flat es → Flat (without_key k es)
+pub flat_without : (k : Key) (es : Table) → Flat es → Flat (without_key k es)
 flat_without k [] h = refl
 flat_without k (e ∷ es) h = kept_at (not (eq_by_cmp key_cmp k e.0)) e es (without_key k es) h (flat_without k es (flat_tail e es h))
 
@@ -73,7 +76,7 @@ record IsGood (t : Table) : Type 0 where
   sorted : Sorted t
   flat : Flat t
 
-text_field : (s : List ℕ) → is_reserved_text s ≡ false → is_long_key (key.Text s) ≡ false → IsTrue (is_field_key (key.Text s))
+pub text_field : (s : List ℕ) → is_reserved_text s ≡ false → is_long_key (key.Text s) ≡ false → IsTrue (is_field_key (key.Text s))
 text_field s r l = rw (r, l) refl
 
 set_good : (s : List ℕ) (w : Plain) (es t : Table) (a b : Bool) → is_reserved_text s ≡ a → is_long_key (key.Text s) ≡ b → IsTrue (is_integer w) → IsGood es
@@ -150,24 +153,39 @@ there old new s t =
 -- what a step leaves: a sound state, and patches that carry
 pub record IsCarried (m : Machine) (a : Machine × Reply) : Type 0 where
   pub carries : Carries m a
-  pub sound : IsSound a.0.state
+  pub sound : IsSound (value a.0)
 
-changed_at : (m : Machine) (new : Plain) (a b c : Bool) → IsSound m.state → IsSound new
-    → IsCarried m (cond a (refused m None refusal.TooBig) (cond b (refused m None refusal.Full) (cond c (refused m None refusal.PatchesTooBig) (accepted (with_state m new) (between m.state new)))))
+changed_at : (m : Machine) (new : Plain) (a b c : Bool) → IsSound (value m) → IsSound new
+    → IsCarried m (cond a (refused m None refusal.TooBig) (cond b (refused m None refusal.Full) (cond c (refused m None refusal.PatchesTooBig) (accepted (with_state m new) (between (value m) new)))))
 changed_at m new true b c s t = record { carries = refl; sound = s }
 changed_at m new false true c s t = record { carries = refl; sound = s }
 changed_at m new false false true s t = record { carries = refl; sound = s }
-changed_at m new false false false s t = record { carries = (there m.state new s t, there new m.state t s); sound = t }
+changed_at m new false false false s t =
+    let same = plain_numbered m.next new in
+    let onward = there (value m) new s t ∙ ap (λ (x : Plain). Ok x) (sym same) in
+    let back = ap (applied (between (value m) new).inverse) same ∙ there new (value m) t s in
+    record { carries = (onward, back); sound = subst IsSound (sym same) t }
 
-judged_at : (m : Machine) (w : Bool) (r : Result Plain Fault) → IsSound m.state → ((new : Plain) → r ≡ Ok new → IsSound new) → IsCarried m (judged m w r)
+judged_at : (m : Machine) (w : Bool) (r : Result Plain Fault) → IsSound (value m) → ((new : Plain) → r ≡ Ok new → IsSound new) → IsCarried m (judged m w r)
 judged_at m w (Err f) s h = record { carries = refl; sound = s }
 judged_at m true (Ok new) s h = changed_at m new _ _ _ s (h new refl)
 judged_at m false (Ok new) s h = record { carries = (refl, refl); sound = s }
 
-apply_at : (m : Machine) (ps : List Patch) → IsTrue (are_flat ps) → IsSound m.state → IsCarried m (apply_step m ps)
+apply_at : (m : Machine) (ps : List Patch) → IsTrue (are_flat ps) → IsSound (value m) → IsCarried m (apply_step m ps)
 unfolding apply_step
-apply_at m ps f s = judged_at m (writes ps m.state) (applied ps m.state) s (λ new e. list_sound 0 ps m.state new f s (sym (applied_flat ps m.state f) ∙ e))
+apply_at m ps f s = judged_at m (writes ps (value m)) (applied ps (value m)) s (λ new e. list_sound 0 ps (value m) new f s (sym (applied_flat ps (value m) f) ∙ e))
+
+state_at : (m : Machine) (o : Option Plain) → IsSound (value m) → IsCarried m (state_shown m o)
+state_at m None s = record { carries = refl; sound = s }
+state_at m (Some v) s = record { carries = refl; sound = s }
+
+node_at : (m : Machine) (o : Option Tree) → IsSound (value m) → IsCarried m (node_shown m o)
+node_at m None s = record { carries = refl; sound = s }
+node_at m (Some t) s = record { carries = refl; sound = s }
 
 -- each command of the built form
-pub step_carried : (m : Machine) (c : Command) → IsTrue (is_built c) → IsSound m.state → IsCarried m (step m c)
+pub step_carried : (m : Machine) (c : Command) → IsTrue (is_built c) → IsSound (value m) → IsCarried m (step m c)
 step_carried m (command.Apply ps) f s = apply_at m ps f s
+step_carried m (command.State path) f s = state_at m (at path (value m)) s
+step_carried m (command.Node path) f s = node_at m (subtree_at path m.state) s
+step_carried m command.Stat f s = record { carries = refl; sound = s }

@@ -9,7 +9,7 @@ use Rattle.value_model.specs.Search.{left_true, right_true}
 use Rattle.values.specs.declared.patch.Patch.{Patch}
 use Rattle.patch_meaning.specs.Applying.{Fault, is_root, has_root_replace, applied, applied_from}
 use Rattle.host_machine.specs.Flat.{is_flat_path, is_flat_value, is_flat_patch, are_flat}
-use Rattle.host_machine.specs.Machine.{Machine, apply_step, judged, writes}
+use Rattle.host_machine.specs.Machine.{Machine, value, apply_step, judged, writes}
 
 flat_path : (p : Patch) (ps : List Patch) → IsTrue (are_flat (p ∷ ps)) → IsTrue (is_flat_path p.path)
 flat_path p ps h = left_true (is_flat_path p.path) (is_flat_value p.op p.value) (left_true (is_flat_patch p) (are_flat ps) h)
@@ -31,12 +31,12 @@ pub applied_flat : (ps : List Patch) (x : Plain) → IsTrue (are_flat ps) → ap
 applied_flat [] x h = refl
 applied_flat (p ∷ ps) x h = rw (no_roots ps (flat_rest p ps h), no_root p.op p.path (flat_path p ps h)) refl
 
-pub step_judged : (m : Machine) (ps : List Patch) (x : Plain) (wrote : Bool) (r : Result Plain Fault) → m.state ≡ x → IsTrue (are_flat ps) → applied_from 0 ps x ≡ r → writes ps x ≡ wrote
+pub step_judged : (m : Machine) (ps : List Patch) (x : Plain) (wrote : Bool) (r : Result Plain Fault) → value m ≡ x → IsTrue (are_flat ps) → applied_from 0 ps x ≡ r → writes ps x ≡ wrote
     → judged m wrote r ≡ apply_step m ps
 unfolding apply_step
 step_judged m ps x wrote r e h a w =
     sym ((λ i. judged m (writes ps (e i)) (applied ps (e i))) ∙ ap (λ (s : Result Plain Fault). judged m (writes ps x) s) (applied_flat ps x h ∙ a) ∙ ap (λ (b : Bool). judged m b r) w)
 
 -- patches that are refused are so whether or not one before wrote
-pub step_refused : (m : Machine) (ps : List Patch) (x : Plain) (f : Fault) → m.state ≡ x → IsTrue (are_flat ps) → applied_from 0 ps x ≡ Err f → judged m false (Err f) ≡ apply_step m ps
+pub step_refused : (m : Machine) (ps : List Patch) (x : Plain) (f : Fault) → value m ≡ x → IsTrue (are_flat ps) → applied_from 0 ps x ≡ Err f → judged m false (Err f) ≡ apply_step m ps
 step_refused m ps x f e h a = step_judged m ps x (writes ps x) (Err f) e h a refl

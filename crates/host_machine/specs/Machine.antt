@@ -1,12 +1,19 @@
 -- The host machine, on a flat state: each command runs on a plain deep copy.
-use Rattle.std.specs.Prelude.{ℕ, ◌+◌, ◌^◌, ◌==◌, ◌||◌, nat_lt, List, [], ◌∷◌, Bool, false, not, Option, Some, None, Result, Ok, Err, if◌then◌else◌}
+use Rattle.std.specs.Prelude.{ℕ, ◌+◌, ◌-◌, ◌^◌, ◌==◌, min, ◌||◌, nat_lt, List, [], ◌∷◌, Bool, false, not, Option, Some, None, Result, Ok, Err, if◌then◌else◌}
 use Rattle.value_model.specs.declared.words.Kind.TheVariants as kind
 use Rattle.value_model.specs.declared.words.PatchWhy.{PatchWhy}
+use Rattle.value_model.specs.declared.key.Key.{Key}
+use Rattle.value_model.specs.Places.{at}
 use Rattle.value_model.specs.Plain.{Plain, Table, prim, node, none, list_of, weight}
+use Rattle.numbered.specs.Tree as tree
+use Rattle.numbered.specs.Tree.{Tree, plain, number}
+use Rattle.numbered.specs.Loading.{places, numbered, loaded}
+use Rattle.numbered.specs.Store.{used as used_by}
 use Rattle.values.specs.declared.patch.Patch.{Patch}
 use Rattle.values.specs.declared.patch.Pair.{Pair}
 use Rattle.plain_values.specs.declared.command.Command.{Command}
 use Rattle.plain_values.specs.declared.command.Command.TheVariants as command
+use Rattle.plain_values.specs.declared.command.Word.{Word}
 use Rattle.plain_values.specs.declared.command.Word.TheVariants as word
 use Rattle.plain_values.specs.declared.reply.Reply.{Reply}
 use Rattle.plain_values.specs.declared.reply.Reply.TheVariants as reply
@@ -15,19 +22,24 @@ use Rattle.plain_values.specs.declared.refusal.Refusal.TheVariants as refusal
 use Rattle.plain_values.specs.Names.{patch_refusal}
 use Rattle.patch_meaning.specs.Applying.{Fault, applied, patched}
 use Rattle.host_machine.specs.Differences.{same_table, differences, patches_weight}
+use Rattle.host_machine.specs.Paths.{subtree_at}
 
--- The state with its number, the least number not given yet, the sum of the weights of all numbers given, and the
--- number of changes so far. Each state is one container, so it has one number and its own weight is its weight.
+-- The numbered state, the least number not given yet, the sum of the own weights of all numbers given, how many past changes
+-- are kept to be undone, and the number of changes so far.
 pub record Machine : Type 0 where
-  pub state : Plain
-  pub root : ℕ
+  pub state : Tree
   pub next : ℕ
   pub used : ℕ
+  pub past : ℕ
   pub seq : ℕ
+
+-- the plain value of the state
+abbrev pub value : Machine → Plain
+value m = plain m.state
 
 -- on a state that is loaded from number 1
 abbrev pub opened : Plain → Machine
-opened v = record { state = v; root = 1; next = 2; used = weight v; seq = 0 }
+opened v = record { state = numbered 1 v; next = places v + 1; used = used_by (loaded [] v); past = 0; seq = 0 }
 
 -- on the empty object
 abbrev pub first_machine : Machine
@@ -57,7 +69,7 @@ refused m at why = (m, reply.No word.Apply at why)
 
 -- the accepted command: the machine then, and its patches there and back
 abbrev pub accepted : Machine → Pair → Machine × Reply
-accepted m pair = (m, reply.Changed word.Apply pair m.root m.seq)
+accepted m pair = (m, reply.Changed word.Apply pair (number m.state) m.seq)
 
 abbrev pub no_patches : Pair
 no_patches = record { forward = []; inverse = [] }
@@ -65,9 +77,10 @@ no_patches = record { forward = []; inverse = [] }
 abbrev pub between : Plain → Plain → Pair
 between old new = record { forward = differences (table_of old) (table_of new); inverse = differences (table_of new) (table_of old) }
 
--- another state, under the next number
+-- Another flat state, under the next number. It is one container, so its own weight is its weight. The change is kept, with
+-- the newest before it up to 100.
 abbrev pub with_state : Machine → Plain → Machine
-with_state m new = record { state = new; root = m.next; next = m.next + 1; used = m.used + weight new; seq = m.seq + 1 }
+with_state m new = record { state = numbered m.next new; next = m.next + 1; used = m.used + weight new; past = min (m.past + 1) 100; seq = m.seq + 1 }
 
 -- no number is left, or no room for a state of that weight
 abbrev pub is_full : Machine → ℕ → Bool
@@ -81,19 +94,44 @@ abbrev pub changed : Machine → Plain → Machine × Reply
 changed m new =
     if nat_lt (2 ^ 20) (weight new) then refused m None refusal.TooBig else (
     if is_full m (weight new) then refused m None refusal.Full else (
-    if is_heavy (between m.state new) then refused m None refusal.PatchesTooBig else
-    accepted (with_state m new) (between m.state new)))
+    if is_heavy (between (value m) new) then refused m None refusal.PatchesTooBig else
+    accepted (with_state m new) (between (value m) new)))
 
 abbrev pub judged : Machine → Bool → Result Plain Fault → Machine × Reply
 judged m written (Err f) = refused m (Some f.at) (patch_refusal f.why)
 judged m written (Ok new) = if written then changed m new else accepted m no_patches
 
 unfoldable pub apply_step : Machine → List Patch → Machine × Reply
-apply_step m patches = judged m (writes patches m.state) (applied patches m.state)
+apply_step m patches = judged m (writes patches (value m)) (applied patches (value m))
+
+-- ---- reading: the machine stays as it is
+
+abbrev pub no_path : Machine → Word → Machine × Reply
+no_path m word = (m, reply.No word None refusal.NoPath)
+
+abbrev pub state_shown : Machine → Option Plain → Machine × Reply
+state_shown m None = no_path m word.State
+state_shown m (Some v) = (m, reply.State v)
+
+-- the number of a container; a primitive has none
+abbrev pub number_if : Tree → Option ℕ
+number_if (tree.prim k) = None
+number_if (tree.node id kind es) = Some id
+
+abbrev pub node_shown : Machine → Option Tree → Machine × Reply
+node_shown m None = no_path m word.Node
+node_shown m (Some t) = (m, reply.Node (number_if t))
+
+-- no change is taken back yet, and no session is begun
+abbrev pub counted : Machine → Machine × Reply
+counted m = (m, reply.Stat (m.next - 1) 0 m.seq 0 m.past m.used)
 
 -- what a command makes of the machine, and its reply
 abbrev pub step : Machine → Command → Machine × Reply
 step m (command.Apply patches) = apply_step m patches
+step m (command.State path) = state_shown m (at path (value m))
+step m (command.Node path) = node_shown m (subtree_at path m.state)
+step m command.Stat = counted m
 
 -- a host: its machine, and how many commands it has taken
 pub record Turned : Type 0 where

@@ -17,7 +17,7 @@ use Rattle.value_text.specs.declared.why.JsonWhy.TheVariants as why
 use Rattle.value_text.specs.Patches.{steps_if, walked_if, patch_of, patch_walked, all_limited, list_if, patches_from, are_patches, op_in, has_members, member_count, first_limit}
 use Rattle.value_text.specs.Reading.{text_from, key_from, safe_from, walked, all_from, limited_by}
 use Rattle.host_machine.specs.Flat.{is_integer, is_flat_path, is_flat_value, is_flat_patch, are_flat}
-use Rattle.line_text.specs.Commands.{text_in, only_item, has_name_path, has_flat_value, is_flat_patch_data, are_flat_items, are_flat_if, flat_patches, apply_in, is_text}
+use Rattle.line_text.specs.Commands.{text_in, only_item, has_name_path, has_flat_value, is_flat_patch_data, are_flat_items, are_flat_if}
 
 abbrev Answer : Type 0 → Type 0
 Answer X = Result X JsonWhy
@@ -126,20 +126,3 @@ array_flat (Some ds) ps e h = list_flat (are_patches ds) ds ps e h
 pub patches_flat : (d : Data) (ps : List Patch) → patches_from d ≡ Ok ps → are_flat_if (as_array d) ≡ true → IsTrue (are_flat ps)
 unfolding patches_from
 patches_flat d ps e h = array_flat (as_array d) ps e h
-
--- ---- a line
-flat_member : (o : Option Data) (d : Data) → flat_patches o ≡ Some d → are_flat_if (as_array d) ≡ true
-flat_member None d e = absurd (cc)
-flat_member (Some c) d e = flat_at (are_flat_if (as_array c)) c d refl e
-  where
-    flat_at : (b : Bool) (c d : Data) → are_flat_if (as_array c) ≡ b → cond b (Some c) None ≡ Some d → are_flat_if (as_array d) ≡ true
-    flat_at true c d p e = let same : c ≡ d = cc in subst (λ (x : Data). are_flat_if (as_array x) ≡ true) same p
-    flat_at false c d p e = absurd (cc)
-
-pub apply_flat : (d c : Data) → apply_in d ≡ Some c → are_flat_if (as_array c) ≡ true
-unfolding apply_in
-apply_flat d c e = at_form (has_members 2 d && is_text (codes "apply") (text_in (get (codes "do") d))) (get (codes "patches") d) c e
-  where
-    at_form : (b : Bool) (o : Option Data) (c : Data) → cond b (flat_patches o) None ≡ Some c → are_flat_if (as_array c) ≡ true
-    at_form true o c e = flat_member o c e
-    at_form false o c e = absurd (cc)

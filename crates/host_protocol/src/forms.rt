@@ -1,62 +1,113 @@
-//! The form of a command line.
-ghost use Rattle.std.specs.Prelude.{◌≡◌, option_map, option_and_then, is_some};
-ghost use Rattle.serde_json.specs.Find.{as_array, as_number, as_str};
-ghost use Rattle.serde_json.specs.View.{view, items_view};
+//! The form of a command line: a word, and exactly the members of that word.
+ghost use Rattle.std.specs.Prelude.{◌≡◌, ◌<◌, option_map, is_some};
+ghost use Rattle.serde_json.specs.Find.{as_str};
+ghost use Rattle.serde_json.specs.View.{view};
 ghost use Rattle.line_text.specs.Commands as spec;
-ghost use Rattle.line_text.specs.Commands.{apply_in};
 ghost use Rattle.value_text.specs.Patches as form;
 
-use plain_values::Op;
+use plain_values::Word;
 use serde_json::Value;
+use value_json::{is_patch_list, is_path};
 
-/// The member `patches` of a line of the form that is built so far.
-#[tactic(auto, unfolding(line_text::specs::Commands::apply_in))]
-pub fn apply_of(value: &Value) -> Option<&Value>
-    ensures { option_map (λ v. view v.now) result ≡ apply_in (view value.now) }
+/// The greatest number of a session.
+const MAX_SESSION: u64 = (1 << 53) - 1;
+
+/// The word of a command line.
+pub fn word_in(value: &Value) -> Option<Word>
+    ensures { result ≡ spec.word_in (view value.now) }
 {
-    if has_members(value, 2) && is_text(value.get("do"), "apply") {
-        flat_patches(value.get("patches"))
+    word_of(value.get("do")?.as_str()?)
+}
+
+fn word_of(text: &str) -> Option<Word>
+    ensures { result ≡ spec.word_of text.now }
+{
+    if text == "dispatch" {
+        Some(Word::Dispatch)
+    } else if text == "apply" {
+        Some(Word::Apply)
+    } else if text == "undo" {
+        Some(Word::Undo)
+    } else if text == "redo" {
+        Some(Word::Redo)
+    } else if text == "begin" {
+        Some(Word::Begin)
+    } else if text == "edit" {
+        Some(Word::Edit)
+    } else if text == "finish" {
+        Some(Word::Finish)
+    } else if text == "drop" {
+        Some(Word::Drop)
+    } else if text == "state" {
+        Some(Word::State)
+    } else if text == "node" {
+        Some(Word::Node)
+    } else if text == "stat" {
+        Some(Word::Stat)
+    } else if text == "renew" {
+        Some(Word::Renew)
     } else {
         None
     }
 }
 
-fn flat_patches(value: Option<&Value>) -> Option<&Value>
-    ensures { option_map (λ v. view v.now) result ≡ spec.flat_patches (option_map (λ v. view v.now) value.entry) }
+/// Whether a line with this word has exactly its members, each in its form.
+pub fn has_form(word: Word, value: &Value) -> bool
+    ensures { result ≡ spec.has_form word (view value.now) }
 {
-    let value = value?;
-    if are_flat(value) { Some(value) } else { None }
-}
-
-fn are_flat(value: &Value) -> bool
-    ensures { result ≡ spec.are_flat_if (as_array (view value.now)) }
-{
-    match value.as_array() {
-        Some(items) => are_flat_items(items.as_slice()),
-        None => false,
+    match word {
+        Word::Dispatch => is_dispatch(value),
+        Word::Apply => is_apply(value),
+        Word::Edit => is_edit(value),
+        Word::Finish => is_finish(value),
+        Word::Drop => is_drop(value),
+        Word::State | Word::Node => is_reading(value),
+        Word::Undo | Word::Redo | Word::Begin | Word::Stat | Word::Renew => has_members(value, 1),
+        Word::Line => false,
     }
 }
 
-fn are_flat_items(items: &[Value]) -> bool
-    ensures { result ≡ spec.are_flat_items (items_view items.now) }
+fn is_dispatch(value: &Value) -> bool
+    ensures { result ≡ spec.is_dispatch (view value.now) }
 {
-    for item in items {
-        if !is_flat_patch(item) {
-            return false;
-        }
-    }
-    true
+    has_members_with(value, 2, value.get("action")) && has_string(value.get("reducer"))
 }
 
-fn is_flat_patch(value: &Value) -> bool
-    ensures { result ≡ spec.is_flat_patch_data (view value.now) }
+fn is_apply(value: &Value) -> bool
+    ensures { result ≡ spec.is_apply (view value.now) }
 {
-    let set = value.get("value");
-    let count = if set.is_some() { 3 } else { 2 };
-    has_members(value, count) && has_name_path(value) && has_flat_value(op_in(value), set)
+    has_members(value, 2) && has_patches(value.get("patches"))
 }
 
-fn has_members(value: &Value, count: usize) -> bool
+fn is_edit(value: &Value) -> bool
+    ensures { result ≡ spec.is_edit (view value.now) }
+{
+    has_members_with(value, 3, value.get("action"))
+        && has_session(value.get("session"))
+        && has_string(value.get("reducer"))
+}
+
+fn is_finish(value: &Value) -> bool
+    ensures { result ≡ spec.is_finish (view value.now) }
+{
+    has_members_with(value, 2, value.get("how"))
+        && has_session(value.get("session"))
+        && may_have_how(value.get("how"))
+}
+
+fn is_drop(value: &Value) -> bool
+    ensures { result ≡ spec.is_drop (view value.now) }
+{
+    has_members(value, 2) && has_session(value.get("session"))
+}
+
+fn is_reading(value: &Value) -> bool
+    ensures { result ≡ spec.is_reading (view value.now) }
+{
+    has_members_with(value, 1, value.get("path")) && may_have_path(value.get("path"))
+}
+
+pub fn has_members(value: &Value, count: usize) -> bool
     ensures { result ≡ form.has_members count (view value.now) }
 {
     match value.as_object() {
@@ -65,13 +116,66 @@ fn has_members(value: &Value, count: usize) -> bool
     }
 }
 
-fn is_text(value: Option<&Value>, text: &str) -> bool
-    ensures { result ≡ spec.is_text text.now (spec.text_in (option_map (λ v. view v.now) value.entry)) }
+/// An object of so many members, and one more where that one is there.
+fn has_members_with(value: &Value, count: usize, more: Option<&Value>) -> bool
+    requires { count < 4 }
+    ensures { result ≡ spec.has_members_with count (option_map (λ v. view v.now) more.entry) (view value.now) }
+{
+    match more {
+        Some(_) => has_members(value, count + 1),
+        None => has_members(value, count),
+    }
+}
+
+fn has_string(value: Option<&Value>) -> bool
+    ensures { result ≡ spec.has spec.is_string (option_map (λ v. view v.now) value.entry) }
 {
     match value {
-        Some(value) => is_this_text(value, text),
+        Some(value) => value.as_str().is_some(),
         None => false,
     }
+}
+
+fn has_session(value: Option<&Value>) -> bool
+    ensures { result ≡ spec.has spec.is_session (option_map (λ v. view v.now) value.entry) }
+{
+    match value {
+        Some(value) => is_session(value),
+        None => false,
+    }
+}
+
+fn is_session(value: &Value) -> bool
+    ensures { result ≡ spec.is_session (view value.now) }
+{
+    match value.as_u64() {
+        Some(number) => number <= MAX_SESSION,
+        None => false,
+    }
+}
+
+fn has_patches(value: Option<&Value>) -> bool
+    ensures { result ≡ spec.has spec.is_patch_list (option_map (λ v. view v.now) value.entry) }
+{
+    match value {
+        Some(value) => is_patch_list(value),
+        None => false,
+    }
+}
+
+fn may_have_how(value: Option<&Value>) -> bool
+    ensures { result ≡ spec.may_have spec.is_how (option_map (λ v. view v.now) value.entry) }
+{
+    match value {
+        Some(value) => is_how(value),
+        None => true,
+    }
+}
+
+fn is_how(value: &Value) -> bool
+    ensures { result ≡ spec.is_how (view value.now) }
+{
+    is_this_text(value, "exact") || is_this_text(value, "replay")
 }
 
 fn is_this_text(value: &Value, text: &str) -> bool
@@ -83,70 +187,11 @@ fn is_this_text(value: &Value, text: &str) -> bool
     }
 }
 
-fn has_name_path(value: &Value) -> bool
-    ensures { result ≡ spec.has_name_path (view value.now) }
-{
-    match value.get("path") {
-        Some(path) => is_one_text(path),
-        None => false,
-    }
-}
-
-fn is_one_text(path: &Value) -> bool
-    ensures { result ≡ is_some (spec.text_in (option_and_then spec.only_item (as_array (view path.now)))) }
-{
-    match only_item(path) {
-        Some(step) => step.as_str().is_some(),
-        None => false,
-    }
-}
-
-fn only_item(value: &Value) -> Option<&Value>
-    ensures { option_map (λ v. view v.now) result ≡ option_and_then spec.only_item (as_array (view value.now)) }
-{
-    let items = value.as_array()?.as_slice();
-    if items.len() == 1 {
-        Some(&items[0])
-    } else {
-        None
-    }
-}
-
-fn op_in(value: &Value) -> Option<Op>
-    ensures { result ≡ form.op_in (view value.now) }
-{
-    op_of(value.get("op")?.as_str()?)
-}
-
-fn op_of(text: &str) -> Option<Op>
-    ensures { result ≡ form.op_of text.now }
-{
-    if text == "add" {
-        Some(Op::Add)
-    } else if text == "replace" {
-        Some(Op::Replace)
-    } else if text == "remove" {
-        Some(Op::Remove)
-    } else {
-        None
-    }
-}
-
-fn has_flat_value(op: Option<Op>, value: Option<&Value>) -> bool
-    ensures { result ≡ spec.has_flat_value op (option_map (λ v. view v.now) value.entry) }
-{
-    match op {
-        Some(Op::Remove) => value.is_none(),
-        Some(_) => is_number(value),
-        None => false,
-    }
-}
-
-fn is_number(value: Option<&Value>) -> bool
-    ensures { result ≡ is_some (option_and_then as_number (option_map (λ v. view v.now) value.entry)) }
+fn may_have_path(value: Option<&Value>) -> bool
+    ensures { result ≡ spec.may_have form.is_path (option_map (λ v. view v.now) value.entry) }
 {
     match value {
-        Some(value) => value.as_number().is_some(),
-        None => false,
+        Some(value) => is_path(value),
+        None => true,
     }
 }

@@ -3,6 +3,7 @@
 //! The definitions stand in `line_text`.
 #![tactic(auto)]
 
+mod flat;
 mod forms;
 mod read;
 mod write;

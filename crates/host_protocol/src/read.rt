@@ -1,17 +1,22 @@
 //! Command lines as commands.
-ghost use Rattle.std.specs.Prelude.{◌≡◌, IfOk, IsTrue};
+ghost use Rattle.std.specs.Prelude.{◌≡◌, IfOk, IsTrue, Err, Some, option_map};
 ghost use Rattle.serde_json.specs.Find.{as_array};
 ghost use Rattle.serde_json.specs.View.{view};
 ghost use Rattle.host_machine.specs.Flat.{is_built};
-ghost use Rattle.line_text.specs.Commands.{apply_in, are_flat_if, command_of, is_long_line, json_refusal, of_form, with_patches};
+ghost use Rattle.line_text.specs.Commands.{are_flat_if, command_of, is_long_line, json_refusal, of_form, of_patches, of_word, path_if, with_patches, with_path, word_in};
+ghost use Rattle.plain_values.specs.declared.command.Command.TheVariants as command;
+ghost use Rattle.plain_values.specs.declared.refusal.Refusal.TheVariants as refusal;
+ghost use Rattle.host_protocol.specs.declared.read.LineFault.TheVariants as fault;
+ghost use Rattle.value_json.specs.Gives.{Gives as GivesJson};
 ghost use Rattle.host_protocol.specs.Gives.{Gives, IsRefusal};
 ghost use Rattle.value_text.specs.Patches.{patches_from};
 
-use crate::forms::apply_of;
-use plain_values::{Command, Refusal};
+use crate::flat::are_flat;
+use crate::forms::{self, has_form};
+use plain_values::{Command, Path, Refusal, Word};
 use serde_json::Value;
 use std::alloc::Global;
-use value_json::{JsonFault, JsonWhy, json_of_bytes, patches_of_json};
+use value_json::{JsonFault, JsonWhy, json_of_bytes, patches_of_json, path_of_json};
 
 /// How many bytes a line may have, without its LF.
 const MAX_LINE: usize = 1 << 20;
@@ -27,8 +32,8 @@ pub enum LineFault {
 
 /// The command that a line is: one JSON text (RFC 8259) of at most 1,048,576 bytes.
 ///
-/// The first fault is `LineTooLong`, `NotJson`, `NotYet` where the text isn't of the form that is built so far, or the
-/// first fault of a value in it.
+/// The first fault is `LineTooLong`, `NotJson`, `NotCommand` where the text has none of the forms of a command, `NotYet` where
+/// it has one that isn't built so far, or the first fault of a value in it.
 #[tactic(auto, unfolding(line_text::specs::Commands::command_of))]
 pub fn read_command(alloc: Global, line: &[u8]) -> Result<Command, LineFault>
     ensures gives { Gives result (command_of line.now) }
@@ -52,17 +57,71 @@ fn is_long(line: &[u8]) -> bool
 
 /// The command that a line's JSON text is.
 fn command_in(alloc: Global, value: &Value) -> Result<Command, LineFault>
-    ensures gives { Gives result (of_form (apply_in (view value.now))) }
+    ensures gives { Gives result (of_word (word_in (view value.now)) (view value.now)) }
     ensures built { IfOk result (λ c. IsTrue (is_built c)) }
 {
-    match apply_of(value) {
-        Some(patches) => apply_with(alloc, patches),
-        None => Err(LineFault::Refused(Refusal::NotYet)),
+    match forms::word_in(value) {
+        Some(word) => command_by(alloc, word, value),
+        None => Err(LineFault::Refused(Refusal::NotCommand)),
     }
 }
 
-/// The command of these patches.
+/// The command of a line with this word.
+fn command_by(alloc: Global, word: Word, value: &Value) -> Result<Command, LineFault>
+    ensures gives { Gives result (of_word (Some word) (view value.now)) }
+    ensures built { IfOk result (λ c. IsTrue (is_built c)) }
+{
+    if has_form(word, value) {
+        command_of_form(alloc, word, value)
+    } else {
+        Err(LineFault::Refused(Refusal::NotCommand))
+    }
+}
+
+/// The command of a line of its word's form.
+fn command_of_form(alloc: Global, word: Word, value: &Value) -> Result<Command, LineFault>
+    ensures gives { Gives result (of_form word (view value.now)) }
+    ensures built { IfOk result (λ c. IsTrue (is_built c)) }
+{
+    match word {
+        Word::Apply => apply_of(alloc, value.get("patches")),
+        Word::State => state_at(alloc, value.get("path")),
+        Word::Node => node_at(alloc, value.get("path")),
+        Word::Stat => Ok(Command::Stat),
+        Word::Dispatch | Word::Undo | Word::Redo | Word::Begin => not_yet(),
+        Word::Edit | Word::Finish | Word::Drop | Word::Renew | Word::Line => not_yet(),
+    }
+}
+
+fn not_yet() -> Result<Command, LineFault>
+    ensures { result ≡ Err (fault.Refused refusal.NotYet) }
+{
+    Err(LineFault::Refused(Refusal::NotYet))
+}
+
+fn apply_of(alloc: Global, patches: Option<&Value>) -> Result<Command, LineFault>
+    ensures gives { Gives result (of_patches (option_map (λ v. view v.now) patches.entry)) }
+    ensures built { IfOk result (λ c. IsTrue (is_built c)) }
+{
+    match patches {
+        Some(patches) => apply_with(alloc, patches),
+        None => Err(LineFault::Refused(Refusal::NotCommand)),
+    }
+}
+
 fn apply_with(alloc: Global, patches: &Value) -> Result<Command, LineFault>
+    ensures gives { Gives result (of_patches (Some (view patches.now))) }
+    ensures built { IfOk result (λ c. IsTrue (is_built c)) }
+{
+    if are_flat(patches) {
+        apply_flat(alloc, patches)
+    } else {
+        not_yet()
+    }
+}
+
+/// The command of patches of the built form.
+fn apply_flat(alloc: Global, patches: &Value) -> Result<Command, LineFault>
     requires { IsTrue (are_flat_if (as_array (view patches.now))) }
     ensures gives { Gives result (with_patches (patches_from (view patches.now))) }
     ensures built { IfOk result (λ c. IsTrue (is_built c)) }
@@ -70,6 +129,36 @@ fn apply_with(alloc: Global, patches: &Value) -> Result<Command, LineFault>
     match patches_of_json(alloc, patches) {
         Ok(patches) => Ok(Command::Apply { patches }),
         Err(fault) => Err(refused(fault)),
+    }
+}
+
+fn state_at(alloc: Global, path: Option<&Value>) -> Result<Command, LineFault>
+    ensures gives { Gives result (with_path command.State (path_if (option_map (λ v. view v.now) path.entry))) }
+    ensures built { IfOk result (λ c. IsTrue (is_built c)) }
+{
+    match path_in(alloc, path) {
+        Ok(path) => Ok(Command::State { path }),
+        Err(fault) => Err(refused(fault)),
+    }
+}
+
+fn node_at(alloc: Global, path: Option<&Value>) -> Result<Command, LineFault>
+    ensures gives { Gives result (with_path command.Node (path_if (option_map (λ v. view v.now) path.entry))) }
+    ensures built { IfOk result (λ c. IsTrue (is_built c)) }
+{
+    match path_in(alloc, path) {
+        Ok(path) => Ok(Command::Node { path }),
+        Err(fault) => Err(refused(fault)),
+    }
+}
+
+/// The path, which is empty where it is absent.
+fn path_in(alloc: Global, path: Option<&Value>) -> Result<Path, JsonFault>
+    ensures { GivesJson result (path_if (option_map (λ v. view v.now) path.entry)) }
+{
+    match path {
+        Some(path) => path_of_json(alloc, path),
+        None => Ok(Path::from_vec(Vec::new(alloc))),
     }
 }
 

@@ -1,25 +1,44 @@
 //! Replies as lines.
-ghost use Rattle.std.specs.Prelude.{◌≡◌, IfOk, string_bytes, Some};
-ghost use Rattle.serde_json.specs.View.{view};
+ghost use Rattle.std.specs.Prelude.{◌≡◌, IfOk, OnOk, string_bytes, Some, None};
+ghost use Rattle.serde.specs.Event.{Logs, Then, field_key};
+ghost use Rattle.serde.specs.declared.name.Case.TheVariants.{AsIs};
+ghost use Rattle.serde_json.specs.Events.{SendsValue, SendsMembers};
 ghost use Rattle.plain_values.specs.declared.reply.Reply.TheVariants as reply;
-ghost use Rattle.line_text.specs.Replies.{reply_data, reply_line};
+ghost use Rattle.line_text.specs.Replies.{refusal_members, reply_data, reply_line};
 
-use plain_values::{Refusal, Reply, Word};
-use serde_json::{Value, json};
+use plain_values::{Pair, Refusal, Reply, Val, Word};
+use serde::{Described, Serialize, Serializer};
 use std::alloc::{AllocError, Global};
-use value_json::json_of_patches;
+use value_json::{Printed, PrintedPatches};
+
+/// A reply as its line, to be printed.
+#[derive(Drop)]
+struct Line<'a> {
+    reply: &'a Reply,
+}
+
+impl Described for Line<'_> {
+    ghost writes = { λ l. SendsValue (reply_data l.reply.now) };
+}
+
+impl Serialize for Line<'_> {
+    fn serialize<S: Serializer>(&self, out: &mut S) -> Result<(), S::Error> {
+        send_reply(self.reply, out)
+    }
+}
 
 /// The line of a reply, without its LF: a compact JSON object with ascending names. The only error is want of memory.
-#[tactic(auto, using(line_text::proofs::NoFloat::reply_no_float))]
 pub fn write_reply(alloc: Global, reply: &Reply) -> Result<String, AllocError>
     ensures { IfOk result (λ s. string_bytes s ≡ reply_line reply.now) }
 {
-    reply_json(alloc, reply)?.to_string(alloc)
+    match serde_json::to_string(alloc, &Line { reply }) {
+        Ok(text) => Ok(text),
+        Err(_) => Err(AllocError),
+    }
 }
 
-#[tactic(auto, unfolding(line_text::specs::Replies::reply_data))]
-fn reply_json(alloc: Global, reply: &Reply) -> Result<Value, AllocError>
-    ensures { IfOk result (λ v. view v ≡ reply_data reply.now) }
+fn send_reply<S: Serializer>(reply: &Reply, out: &mut S) -> Result<(), S::Error>
+    ensures { OnOk result (SendsValue (reply_data reply.now) (S.written out.old) (S.written out.new)) }
 {
     match reply {
         Reply::Changed {
@@ -27,34 +46,110 @@ fn reply_json(alloc: Global, reply: &Reply) -> Result<Value, AllocError>
             pair,
             root,
             seq,
+        } => send_changed(word, pair, *root, *seq, out),
+        Reply::State { value } => send_state(value, out),
+        Reply::Node { node: Some(number) } => send_node(*number, out),
+        Reply::Node { node: None } => send_no_node(out),
+        Reply::Stat {
+            nodes,
+            redo,
+            seq,
+            sessions,
+            undo,
+            used,
         } => {
-            let inverse = json_of_patches(alloc, &pair.inverse)?;
-            let patches = json_of_patches(alloc, &pair.forward)?;
-            let ok = word.name();
-            json!(in alloc; {"inverse": inverse, "ok": ok, "patches": patches, "root": *root, "seq": *seq})
+            out.begin_map(Some(7))?;
+            member("nodes", nodes, out)?;
+            member("ok", &Word::Stat.name(), out)?;
+            member("redo", redo, out)?;
+            member("seq", seq, out)?;
+            member("sessions", sessions, out)?;
+            member("undo", undo, out)?;
+            member("used", used, out)?;
+            out.end_map()
         }
         Reply::No {
             word,
             at: Some(at),
             why,
-        } => refused_at(alloc, word, *at, why),
+        } => {
+            out.begin_map(Some(3))?;
+            member("at", at, out)?;
+            send_why(word, why, out)
+        }
         Reply::No {
             word,
             at: None,
             why,
         } => {
-            let no = word.name();
-            let why = why.name();
-            json!(in alloc; {"no": no, "why": why})
+            out.begin_map(Some(2))?;
+            send_why(word, why, out)
         }
     }
 }
 
-#[tactic(auto, unfolding(line_text::specs::Replies::reply_data))]
-fn refused_at(alloc: Global, word: &Word, at: u64, why: &Refusal) -> Result<Value, AllocError>
-    ensures { IfOk result (λ v. view v ≡ reply_data (reply.No word.now (Some at) why.now)) }
+/// A member of an object: its name, and its value as that is sent.
+fn member<T: Serialize, S: Serializer>(name: &str, value: &T, out: &mut S) -> Result<(), S::Error>
+    ensures { OnOk result (Then (λ old new. Logs old new (field_key name.now AsIs)) (T.writes value.now) (S.written out.old) (S.written out.new)) }
 {
-    let no = word.name();
-    let why = why.name();
-    json!(in alloc; {"at": at, "no": no, "why": why})
+    out.key(name)?;
+    value.serialize(out)
+}
+
+#[tactic(auto, unfolding(line_text::specs::Replies::reply_data))]
+fn send_changed<S: Serializer>(word: &Word, pair: &Pair, root: u64, seq: u64, out: &mut S) -> Result<(), S::Error>
+    ensures { OnOk result (SendsValue (reply_data (reply.Changed word.now pair.now root seq)) (S.written out.old) (S.written out.new)) }
+{
+    let inverse = PrintedPatches {
+        patches: &pair.inverse,
+    };
+    let forward = PrintedPatches {
+        patches: &pair.forward,
+    };
+    out.begin_map(Some(5))?;
+    member("inverse", &inverse, out)?;
+    member("ok", &word.name(), out)?;
+    member("patches", &forward, out)?;
+    member("root", &root, out)?;
+    member("seq", &seq, out)?;
+    out.end_map()
+}
+
+#[tactic(auto, unfolding(line_text::specs::Replies::reply_data))]
+fn send_state<S: Serializer>(value: &Val, out: &mut S) -> Result<(), S::Error>
+    ensures { OnOk result (SendsValue (reply_data (reply.State value.now)) (S.written out.old) (S.written out.new)) }
+{
+    out.begin_map(Some(2))?;
+    member("ok", &Word::State.name(), out)?;
+    member("value", &Printed { value }, out)?;
+    out.end_map()
+}
+
+#[tactic(auto, unfolding(line_text::specs::Replies::reply_data))]
+fn send_node<S: Serializer>(number: u64, out: &mut S) -> Result<(), S::Error>
+    ensures { OnOk result (SendsValue (reply_data (reply.Node (Some number))) (S.written out.old) (S.written out.new)) }
+{
+    out.begin_map(Some(2))?;
+    member("node", &number, out)?;
+    member("ok", &Word::Node.name(), out)?;
+    out.end_map()
+}
+
+#[tactic(auto, unfolding(line_text::specs::Replies::reply_data))]
+fn send_no_node<S: Serializer>(out: &mut S) -> Result<(), S::Error>
+    ensures { OnOk result (SendsValue (reply_data (reply.Node None)) (S.written out.old) (S.written out.new)) }
+{
+    out.begin_map(Some(2))?;
+    member("node", &(), out)?;
+    member("ok", &Word::Node.name(), out)?;
+    out.end_map()
+}
+
+/// The members `no` and `why`, and the end of the object.
+fn send_why<S: Serializer>(word: &Word, why: &Refusal, out: &mut S) -> Result<(), S::Error>
+    ensures { OnOk result (SendsMembers (refusal_members word.now why.now) (S.written out.old) (S.written out.new)) }
+{
+    member("no", &word.name(), out)?;
+    member("why", &why.name(), out)?;
+    out.end_map()
 }

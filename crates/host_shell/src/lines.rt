@@ -3,7 +3,7 @@ ghost use Rattle.std.specs.Prelude.{◌≡◌, ◌≢◌, ◌≤◌, ◌<◌, �
 ghost use Rattle.std.specs.Io.KnownBytes.{Consumes, IsAtEnd, Keeps};
 ghost use Rattle.io_edges.specs.Causes.{HasCause, Rose};
 ghost use Rattle.host_machine.specs.Carries.{IsSound};
-ghost use Rattle.host_machine.specs.Machine.{Machine};
+ghost use Rattle.host_machine.specs.Machine.{Machine, value};
 ghost use Rattle.stream_run.proofs.LinesLaws.{HasNoLf};
 ghost use Rattle.stream_run.specs.Endings.{Ran};
 ghost use Rattle.stream_run.specs.Lines.{lines};
@@ -40,7 +40,7 @@ pub fn serve_lines<C: Source, O: Sink>(
     ensures read { result ≡ Status.ReadFault → Rose (C.faults commands.old) (C.faults commands.new) }
     ensures write { result ≡ Status.WriteFault → Rose (O.faults out.old) (O.faults out.new) }
     ensures usage { result ≢ Status.Usage }
-    ensures patches { IsSound host.machine.state → (stream : List ℕ) → AllCarry host.machine (lines stream) }
+    ensures patches { IsSound (value host.machine) → (stream : List ℕ) → AllCarry host.machine (lines stream) }
 {
     let mut host = host;
     let mut line = Line::new(alloc);

@@ -1,22 +1,25 @@
 -- The command that a line is, or why it is none. A line is one JSON text (RFC 8259).
-use Rattle.std.specs.Prelude.{ℕ, ◌&&◌, List, length, Bool, true, false, codes, if◌then◌else◌, nat_lt, Option, Some, None, is_none, is_some, option_and_then, Result, Ok, Err}
+use Rattle.std.specs.Prelude.{ℕ, ◌+◌, ◌&&◌, ◌||◌, List, [], length, Bool, true, false, codes, if◌then◌else◌, nat_le, nat_lt, Option, Some, None, is_none, is_some, option_and_then, option_map, unwrap_or, Result, Ok, Err}
 use Rattle.std.specs.Str.{bytes_eq}
 use Rattle.serde_json.specs.Data.{Data, Items, no_items, item}
-use Rattle.serde_json.specs.Find.{get, as_array, as_number, as_str}
+use Rattle.serde_json.specs.Find.{get, as_array, as_number, as_str, as_u64}
+use Rattle.value_model.specs.declared.key.Key.{Key}
 use Rattle.value_model.specs.declared.words.Op.{Op}
 use Rattle.value_model.specs.declared.words.Op.TheVariants.{Remove}
 use Rattle.values.specs.declared.patch.Patch.{Patch}
 use Rattle.plain_values.specs.declared.command.Command.{Command}
 use Rattle.plain_values.specs.declared.command.Command.TheVariants as command
+use Rattle.plain_values.specs.declared.command.Word.{Word}
+use Rattle.plain_values.specs.declared.command.Word.TheVariants as word
 use Rattle.plain_values.specs.declared.refusal.Refusal.{Refusal}
 use Rattle.plain_values.specs.declared.refusal.Refusal.TheVariants as refusal
 use Rattle.plain_values.specs.Names.{limit_refusal}
 use Rattle.value_text.specs.declared.why.JsonWhy.{JsonWhy}
 use Rattle.value_text.specs.declared.why.JsonWhy.TheVariants as why
-use Rattle.value_text.specs.Patches.{has_members, member_count, op_in, patches_from}
+use Rattle.value_text.specs.Patches.{are_patches, has_members, is_path, member_count, op_in, path_from, patches_from}
 use Rattle.value_text.specs.Reading.{json_of}
 
--- ---- the form that is built so far: `{"do":"apply","patches":[..]}`, each patch of one entry of a flat object
+-- ---- the members of a line
 
 abbrev pub is_text : List ℕ → Option (List ℕ) → Bool
 is_text s None = false
@@ -24,6 +27,94 @@ is_text s (Some t) = bytes_eq t s
 
 abbrev pub text_in : Option Data → Option (List ℕ)
 text_in o = option_and_then as_str o
+
+-- a member that has to be there, in such a form; one that may be absent
+abbrev pub has : (Data → Bool) → Option Data → Bool
+has f None = false
+has f (Some d) = f d
+
+abbrev pub may_have : (Data → Bool) → Option Data → Bool
+may_have f None = true
+may_have f (Some d) = f d
+
+-- an object with so many members, and one more where that one is there
+abbrev pub members_with : ℕ → Option Data → ℕ
+members_with n None = n
+members_with n (Some d) = n + 1
+
+abbrev pub has_members_with : ℕ → Option Data → Data → Bool
+has_members_with n o d = has_members (members_with n o) d
+
+-- ---- the forms of their values
+
+abbrev pub is_string : Data → Bool
+is_string d = is_some (as_str d)
+
+-- an integer from 0 to 2^53 - 1
+abbrev pub is_index : Option ℕ → Bool
+is_index None = false
+is_index (Some n) = nat_le n 9007199254740991
+
+abbrev pub is_session : Data → Bool
+is_session d = is_index (option_and_then as_u64 (as_number d))
+
+abbrev pub is_how : Data → Bool
+is_how d = is_text (codes "exact") (as_str d) || is_text (codes "replay") (as_str d)
+
+abbrev pub is_patch_list : Data → Bool
+is_patch_list d = unwrap_or (option_map are_patches (as_array d)) false
+
+-- ---- the form of a line: a word under `do`, and exactly the members of that word
+
+abbrev pub word_of : List ℕ → Option Word
+word_of s =
+    if bytes_eq s (codes "dispatch") then Some word.Dispatch else (
+    if bytes_eq s (codes "apply") then Some word.Apply else (
+    if bytes_eq s (codes "undo") then Some word.Undo else (
+    if bytes_eq s (codes "redo") then Some word.Redo else (
+    if bytes_eq s (codes "begin") then Some word.Begin else (
+    if bytes_eq s (codes "edit") then Some word.Edit else (
+    if bytes_eq s (codes "finish") then Some word.Finish else (
+    if bytes_eq s (codes "drop") then Some word.Drop else (
+    if bytes_eq s (codes "state") then Some word.State else (
+    if bytes_eq s (codes "node") then Some word.Node else (
+    if bytes_eq s (codes "stat") then Some word.Stat else (
+    if bytes_eq s (codes "renew") then Some word.Renew else None)))))))))))
+
+abbrev pub word_in : Data → Option Word
+word_in d = option_and_then word_of (text_in (get (codes "do") d))
+
+-- a reducer's name, and its action, which may be absent
+abbrev pub is_dispatch : Data → Bool
+is_dispatch d = has_members_with 2 (get (codes "action") d) d && has is_string (get (codes "reducer") d)
+
+abbrev pub is_apply : Data → Bool
+is_apply d = has_members 2 d && has is_patch_list (get (codes "patches") d)
+
+abbrev pub is_edit : Data → Bool
+is_edit d = has_members_with 3 (get (codes "action") d) d && has is_session (get (codes "session") d) && has is_string (get (codes "reducer") d)
+
+abbrev pub is_finish : Data → Bool
+is_finish d = has_members_with 2 (get (codes "how") d) d && has is_session (get (codes "session") d) && may_have is_how (get (codes "how") d)
+
+abbrev pub is_drop : Data → Bool
+is_drop d = has_members 2 d && has is_session (get (codes "session") d)
+
+abbrev pub is_reading : Data → Bool
+is_reading d = has_members_with 1 (get (codes "path") d) d && may_have is_path (get (codes "path") d)
+
+abbrev pub has_form : Word → Data → Bool
+has_form word.Dispatch d = is_dispatch d
+has_form word.Apply d = is_apply d
+has_form word.Edit d = is_edit d
+has_form word.Finish d = is_finish d
+has_form word.Drop d = is_drop d
+has_form word.State d = is_reading d
+has_form word.Node d = is_reading d
+has_form word.Line d = false
+has_form _ d = has_members 1 d
+
+-- ---- the patches that are built so far: each of one entry of a flat object
 
 abbrev pub only_item : Items → Option Data
 only_item no_items = None
@@ -52,18 +143,10 @@ abbrev pub are_flat_if : Option Items → Bool
 are_flat_if None = false
 are_flat_if (Some ds) = are_flat_items ds
 
--- the member `patches` of a line of this form
-abbrev pub flat_patches : Option Data → Option Data
-flat_patches None = None
-flat_patches (Some d) = if are_flat_if (as_array d) then Some d else None
-
-unfoldable pub apply_in : Data → Option Data
-apply_in d = if has_members 2 d && is_text (codes "apply") (text_in (get (codes "do") d)) then flat_patches (get (codes "patches") d) else None
-
 -- ---- the first fault
 
--- A fault of the JSON inside a line, as a refusal of the same name. A list of another form is none of this command's: its
--- form is judged first.
+-- A fault of the JSON inside a line, as a refusal of the same name. The form of a path or a list
+-- of patches is judged before its content.
 abbrev pub json_refusal : JsonWhy → Refusal
 json_refusal why.NotJson = refusal.NotJson
 json_refusal why.NotSafeInteger = refusal.NotSafeInteger
@@ -78,18 +161,39 @@ abbrev pub with_patches : Result (List Patch) JsonWhy → Result Command Refusal
 with_patches (Ok ps) = Ok (command.Apply ps)
 with_patches (Err w) = Err (json_refusal w)
 
-abbrev pub of_form : Option Data → Result Command Refusal
-of_form None = Err refusal.NotYet
-of_form (Some d) = with_patches (patches_from d)
+abbrev pub of_patches : Option Data → Result Command Refusal
+of_patches None = Err refusal.NotCommand
+of_patches (Some d) = if are_flat_if (as_array d) then with_patches (patches_from d) else Err refusal.NotYet
+
+-- a path that is absent is empty
+abbrev pub path_if : Option Data → Result (List Key) JsonWhy
+path_if None = Ok []
+path_if (Some d) = path_from d
+
+abbrev pub with_path : (List Key → Command) → Result (List Key) JsonWhy → Result Command Refusal
+with_path f (Ok path) = Ok (f path)
+with_path f (Err w) = Err (json_refusal w)
+
+-- the command of a line of its word's form, where that is built
+abbrev pub of_form : Word → Data → Result Command Refusal
+of_form word.Apply d = of_patches (get (codes "patches") d)
+of_form word.State d = with_path command.State (path_if (get (codes "path") d))
+of_form word.Node d = with_path command.Node (path_if (get (codes "path") d))
+of_form word.Stat d = Ok command.Stat
+of_form _ d = Err refusal.NotYet
+
+abbrev pub of_word : Option Word → Data → Result Command Refusal
+of_word None d = Err refusal.NotCommand
+of_word (Some w) d = if has_form w d then of_form w d else Err refusal.NotCommand
 
 abbrev pub of_json : Option Data → Result Command Refusal
 of_json None = Err refusal.NotJson
-of_json (Some d) = of_form (apply_in d)
+of_json (Some d) = of_word (word_in d) d
 
 -- a line has at most 2^20 bytes
 unfoldable pub is_long_line : List ℕ → Bool
 is_long_line line = nat_lt 1048576 (length line)
 
--- the command that a line is, or its first fault: too long, no JSON, no built form, a fault of a value
+-- the command that a line is, or its first fault: too long, no JSON, of no form, of none that is built, a fault of a value
 unfoldable pub command_of : List ℕ → Result Command Refusal
 command_of line = if is_long_line line then Err refusal.LineTooLong else of_json (json_of line)

@@ -10,7 +10,18 @@ use Rattle.plain_values.specs.declared.refusal.Refusal.{Refusal}
 use Rattle.plain_values.specs.declared.refusal.Refusal.TheVariants as refusal
 
 abbrev pub word_name : Word → List ℕ
+word_name word.Dispatch = codes "dispatch"
 word_name word.Apply = codes "apply"
+word_name word.Undo = codes "undo"
+word_name word.Redo = codes "redo"
+word_name word.Begin = codes "begin"
+word_name word.Edit = codes "edit"
+word_name word.Finish = codes "finish"
+word_name word.Drop = codes "drop"
+word_name word.State = codes "state"
+word_name word.Node = codes "node"
+word_name word.Stat = codes "stat"
+word_name word.Renew = codes "renew"
 word_name word.Line = codes "line"
 
 abbrev pub refusal_name : Refusal → List ℕ

@@ -33,7 +33,7 @@ pub enum Refusal {
     KeyTooLong,
     #[error("a key of an object is reserved")]
     ReservedKey,
-    #[error("no container stands where the path leads")]
+    #[error("nothing stands where the path leads")]
     NoPath,
     #[error("a step or a value is of the wrong kind")]
     BadKey,

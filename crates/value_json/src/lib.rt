@@ -13,8 +13,10 @@ mod texts;
 mod walk;
 
 pub use fault::JsonFault;
+pub use reading::{
+    is_patch_list, is_path, json_of_bytes, patches_of_json, path_of_json, val_of_json,
+};
 pub use sending::Printed;
 pub use sending_patches::PrintedPatches;
-pub use reading::{json_of_bytes, patches_of_json, path_of_json, val_of_json};
 pub use texts::{Text8, read_patches, read_path, read_value, write_patches, write_value};
 pub use value_text::JsonWhy;

@@ -1,5 +1,6 @@
 //! Reading: bytes as JSON data, and the value, path or patches that the data is.
-ghost use Rattle.std.specs.Prelude.{◌≡◌, option_map};
+ghost use Rattle.std.specs.Prelude.{◌≡◌, option_map, unwrap_or, false};
+ghost use Rattle.serde_json.specs.Find.{as_array};
 ghost use Rattle.serde_json.specs.View.{view, items_view};
 ghost use Rattle.value_json.specs.Gives.{Gives, GivesBy, GivesData};
 ghost use Rattle.value_model.specs.declared.words.Limit.TheVariants as limit;
@@ -65,7 +66,8 @@ pub fn path_of_json(alloc: Global, value: &Value) -> Result<Path, JsonFault>
     }
 }
 
-fn is_path(value: &Value) -> bool
+/// Whether the data is an array of primitives: where it isn't, `path_of_json` answers `NotPath`.
+pub fn is_path(value: &Value) -> bool
     ensures { result ≡ spec.is_path (view value.now) }
 {
     match value {
@@ -153,6 +155,16 @@ fn limit_if(value: &Option<Val>) -> Option<Limit>
             Ok(()) => None,
             Err(limit) => Some(limit),
         },
+    }
+}
+
+/// Whether the data is an array of objects of the form of patches: where it isn't, `patches_of_json` answers `NotPatches`.
+pub fn is_patch_list(value: &Value) -> bool
+    ensures { result ≡ unwrap_or (option_map spec.are_patches (as_array (view value.now))) false }
+{
+    match value.as_array() {
+        Some(items) => are_patches(items),
+        None => false,
     }
 }
 
