@@ -58,33 +58,26 @@ fn send_reply<S: Serializer>(reply: &Reply, out: &mut S) -> Result<(), S::Error>
             undo,
             used,
         } => {
-            out.begin_map(Some(7))?;
-            member("nodes", nodes, out)?;
-            member("ok", &Word::Stat.name(), out)?;
-            member("redo", redo, out)?;
-            member("seq", seq, out)?;
-            member("sessions", sessions, out)?;
-            member("undo", undo, out)?;
-            member("used", used, out)?;
-            out.end_map()
+            let counts = Counts {
+                nodes: *nodes,
+                redo: *redo,
+                seq: *seq,
+                sessions: *sessions,
+                undo: *undo,
+                used: *used,
+            };
+            send_stat(counts, out)
         }
         Reply::No {
             word,
             at: Some(at),
             why,
-        } => {
-            out.begin_map(Some(3))?;
-            member("at", at, out)?;
-            send_why(word, why, out)
-        }
+        } => send_refusal_at(word, *at, why, out),
         Reply::No {
             word,
             at: None,
             why,
-        } => {
-            out.begin_map(Some(2))?;
-            send_why(word, why, out)
-        }
+        } => send_refusal(word, why, out),
     }
 }
 
@@ -97,7 +90,13 @@ fn member<T: Serialize, S: Serializer>(name: &str, value: &T, out: &mut S) -> Re
 }
 
 #[tactic(auto, unfolding(line_text::specs::Replies::reply_data))]
-fn send_changed<S: Serializer>(word: &Word, pair: &Pair, root: u64, seq: u64, out: &mut S) -> Result<(), S::Error>
+fn send_changed<S: Serializer>(
+    word: &Word,
+    pair: &Pair,
+    root: u64,
+    seq: u64,
+    out: &mut S,
+) -> Result<(), S::Error>
     ensures { OnOk result (SendsValue (reply_data (reply.Changed word.now pair.now root seq)) (S.written out.old) (S.written out.new)) }
 {
     let inverse = PrintedPatches {
@@ -143,6 +142,54 @@ fn send_no_node<S: Serializer>(out: &mut S) -> Result<(), S::Error>
     member("node", &(), out)?;
     member("ok", &Word::Node.name(), out)?;
     out.end_map()
+}
+
+/// The numbers that a host tells of itself.
+#[derive(Clone, Copy, Drop)]
+struct Counts {
+    nodes: u64,
+    redo: u64,
+    seq: u64,
+    sessions: u64,
+    undo: u64,
+    used: u64,
+}
+
+#[tactic(auto, unfolding(line_text::specs::Replies::reply_data))]
+fn send_stat<S: Serializer>(c: Counts, out: &mut S) -> Result<(), S::Error>
+    ensures { OnOk result (SendsValue (reply_data (reply.Stat c.nodes c.redo c.seq c.sessions c.undo c.used)) (S.written out.old) (S.written out.new)) }
+{
+    out.begin_map(Some(7))?;
+    member("nodes", &c.nodes, out)?;
+    member("ok", &Word::Stat.name(), out)?;
+    member("redo", &c.redo, out)?;
+    member("seq", &c.seq, out)?;
+    member("sessions", &c.sessions, out)?;
+    member("undo", &c.undo, out)?;
+    member("used", &c.used, out)?;
+    out.end_map()
+}
+
+#[tactic(auto, unfolding(line_text::specs::Replies::reply_data))]
+fn send_refusal_at<S: Serializer>(
+    word: &Word,
+    at: u64,
+    why: &Refusal,
+    out: &mut S,
+) -> Result<(), S::Error>
+    ensures { OnOk result (SendsValue (reply_data (reply.No word.now (Some at) why.now)) (S.written out.old) (S.written out.new)) }
+{
+    out.begin_map(Some(3))?;
+    member("at", &at, out)?;
+    send_why(word, why, out)
+}
+
+#[tactic(auto, unfolding(line_text::specs::Replies::reply_data))]
+fn send_refusal<S: Serializer>(word: &Word, why: &Refusal, out: &mut S) -> Result<(), S::Error>
+    ensures { OnOk result (SendsValue (reply_data (reply.No word.now None why.now)) (S.written out.old) (S.written out.new)) }
+{
+    out.begin_map(Some(2))?;
+    send_why(word, why, out)
 }
 
 /// The members `no` and `why`, and the end of the object.

@@ -7,22 +7,25 @@ use node_store::{Cell, Kind, NodeId, Store};
 use std::alloc::Global;
 use std::test::Fail;
 use value_checks::check_state;
-use value_json::{json_of_bytes, json_of_key, json_of_val, val_of_json};
-use values::Val;
+use value_json::{read_value, write_value};
+use values::{Key, Val};
 
 /// The state that a JSON text is.
 pub(crate) fn state_of(alloc: Global, text: &str) -> Result<Val, Fail>
     ensures { IfOk result (λ v. state_limit v ≡ None) }
 {
-    let json = json_of_bytes(alloc, text.as_bytes())?;
-    let v = val_of_json(alloc, &json)?;
+    let v = read_value(alloc, text.as_bytes())?;
     check_state(&v)?;
     Ok(v)
 }
 
 /// The JSON text of a value.
 pub(crate) fn text_of(alloc: Global, v: &Val) -> Result<String, Fail> {
-    Ok(json_of_val(alloc, v)?.to_string(alloc)?)
+    Ok(String::from_str(alloc, write_value(alloc, v)?.as_str())?)
+}
+
+fn text_of_key(alloc: Global, key: &Key) -> Result<String, Fail> {
+    text_of(alloc, &Val::primitive(key.copy(alloc)?))
 }
 
 /// A node: its kind, then each entry's key and cell, a node's number behind `#`.
@@ -34,7 +37,7 @@ pub(crate) fn described(alloc: Global, store: &Store, id: NodeId) -> Result<Stri
         out.push(' ')?;
         push_key(alloc, store, id, i, &mut out)?;
         match store.cell(id, i) {
-            Cell::Prim(key) => out.push_str(json_of_key(alloc, key)?.to_string(alloc)?.as_str())?,
+            Cell::Prim(key) => out.push_str(text_of_key(alloc, key)?.as_str())?,
             Cell::Node(child) => {
                 let number = child.get();
                 out.push_str(format!(in alloc; "#{number}")?.as_str())?;
@@ -84,7 +87,7 @@ fn push_key(
         Kind::Map => store.key(id, i),
         Kind::Set => store.key(id, i),
     };
-    out.push_str(json_of_key(alloc, key)?.to_string(alloc)?.as_str())?;
+    out.push_str(text_of_key(alloc, key)?.as_str())?;
     out.push(':')?;
     Ok(())
 }

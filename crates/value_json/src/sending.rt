@@ -48,11 +48,7 @@ pub(crate) fn send_key<S: Serializer>(key: &Key, out: &mut S) -> Result<(), S::E
 fn send_integer<S: Serializer>(n: i64, out: &mut S) -> Result<(), S::Error>
     ensures { OnOk result (SendsValue (number (of_integer n)) (S.written out.old) (S.written out.new)) }
 {
-    if n < 0 {
-        out.i64(n)
-    } else {
-        out.u64(n as u64)
-    }
+    if n < 0 { out.i64(n) } else { out.u64(n as u64) }
 }
 
 /// Sends a value. A caller learns besides that it is sound.
