@@ -1,5 +1,5 @@
 //! The worked examples in one run, and a few runs that need bytes of their own.
-use crate::tables::{lines, replies, words};
+use crate::tables::{NO_COMMAND, NOT_YET, lines, replies, words};
 use host_shell::{Status, StatusLine, serve};
 use io_edges::{MemSink, MemSource};
 use std::test::Fail;
@@ -19,6 +19,30 @@ fn the_worked_examples(rt: HostRuntime) -> Result<(), Fail> {
     assert!(rt; status == Status::Done);
     assert_eq!(rt; out.bytes(), replies(alloc)?.as_bytes());
     assert_eq!(rt; out.refused(), 0);
+    Ok(())
+}
+
+#[test]
+fn the_forms_of_commands(rt: HostRuntime) -> Result<(), Fail> {
+    let alloc = rt.alloc();
+    let words = words(alloc, &["scratch"])?;
+    let mut stream = String::new(alloc);
+    let mut wanted = String::new(alloc);
+    for line in NOT_YET {
+        stream.push_str(line)?;
+        stream.push_str("\n")?;
+        wanted.push_str("{\"no\":\"line\",\"why\":\"NotYet\"}\n")?;
+    }
+    for line in NO_COMMAND {
+        stream.push_str(line)?;
+        stream.push_str("\n")?;
+        wanted.push_str("{\"no\":\"line\",\"why\":\"NotCommand\"}\n")?;
+    }
+    let mut commands = MemSource::new(alloc, stream.as_bytes(), &[])?;
+    let mut out = MemSink::new(alloc, &[])?;
+    let status = serve(alloc, words.as_slice(), &mut commands, &mut out);
+    assert!(rt; status == Status::Done);
+    assert_eq!(rt; out.bytes(), wanted.as_bytes());
     Ok(())
 }
 

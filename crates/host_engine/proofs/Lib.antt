@@ -1,4 +1,6 @@
 pub mod EditLaws
+pub mod FlatLaws
+pub mod HostLaws
 pub mod PairLaws
-pub mod StateLaws
+pub mod PlaceLaws
 pub mod Tables

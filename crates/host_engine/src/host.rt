@@ -1,18 +1,20 @@
-ghost use Rattle.std.specs.Prelude.{◌≡◌, ◌≤◌, ◌<◌, ◌+◌, ◌^◌, IfOk, IfErr, IsTrue, Some, None, min, false, option_map};
+ghost use Rattle.std.specs.Prelude.{◌≡◌, ◌≤◌, ◌<◌, ◌+◌, ◌^◌, IfOk, IfErr, IsTrue, Some, None, min, []};
 ghost use Rattle.value_model.specs.Limits.{state_limit};
-ghost use Rattle.value_model.specs.Plain.{weight as weight_of};
-ghost use Rattle.host_machine.specs.Flat.{is_flat, is_flat_table, is_built, are_flat};
+ghost use Rattle.host_machine.specs.Flat.{is_flat, is_built, are_flat};
 ghost use Rattle.numbered.specs.Tree.{number};
 ghost use Rattle.plain_values.specs.declared.command.Word.TheVariants as word;
 ghost use Rattle.plain_values.specs.declared.reply.Reply.TheVariants as reply;
 ghost use Rattle.value_model.specs.Places.{at};
 ghost use Rattle.host_machine.specs.Paths.{subtree_at};
-ghost use Rattle.host_machine.specs.Machine.{value, opened, no_path, state_shown, node_shown, number_if, counted, step, apply_step, changed, accepted, refused as refused_by, no_patches, between, with_state, is_full as is_full_of, is_heavy as is_heavy_of};
+ghost use Rattle.host_machine.specs.Machine.{value, opened, no_path, state_shown, node_shown, counted, step, apply_step, changed, accepted, refused as refused_by, no_patches};
+ghost use Rattle.numbered.specs.Loading.{loaded};
 ghost use Rattle.host_engine.specs.Kept.{state_of};
 
+use crate::change::{ChangeStop, keep};
 use crate::edits::{ApplyStop, edit_all};
-use crate::pairs::{differences, patches_weight};
+use crate::places::{number_at, value_at};
 use crate::table::Table;
+use node_store::{NodeId, Store, StoreFault};
 use plain_values::{Command, Pair, Patches, Path, Refusal, Reply, Val, Word};
 use std::alloc::{AllocError, Global};
 use std::marker::Model;
@@ -20,28 +22,18 @@ use std::marker::Model;
 /// What a state may weigh.
 const MAX_WEIGHT: u64 = 1 << 20;
 
-/// The first number that no state can have.
-const MAX_NUMBER: u64 = 1 << 21;
-
-/// What all states that were given a number may weigh together.
-const MAX_USED: u64 = 1 << 25;
-
 /// How many past changes are kept.
 const MAX_PAST: u64 = 100;
-
-/// What the patches of a change may weigh, there and back together.
-const MAX_PATCHES: u64 = 1 << 22;
 
 /// A host: one state, changed by commands.
 ///
 /// A contract sees it as its machine, and the number of the commands that it has taken.
 #[derive(Drop)]
 pub struct Host {
+    store: Store,
+    root: NodeId,
+    /// The entries of the root, in the form in which patches edit them.
     table: Table,
-    weight: u64,
-    root: u64,
-    next: u64,
-    used: u64,
     past: u64,
     seq: u64,
     turns: u64,
@@ -50,17 +42,16 @@ pub struct Host {
 impl Model for Host {
     ghost use Rattle.std.specs.Coded.{codes};
     ghost use Rattle.numbered.specs.Code.{coded_tree};
-    ghost use Rattle.numbered.specs.Loading.{numbered};
     ghost use Rattle.host_machine.specs.Machine.{Turned};
-    ghost use Rattle.host_engine.specs.Kept.{IsKept, state_of};
+    ghost use Rattle.host_engine.specs.Kept.{IsKept, machine_of};
 
     ghost Value = { Turned };
 
     ghost coded = { Prim.hlevel (codes, coded_tree) };
 
-    ghost view = { λ h. record { machine = record { state = numbered h.root (state_of h.table); next = h.next; used = h.used; past = h.past; seq = h.seq }; turns = h.turns } };
+    ghost view = { λ h. record { machine = machine_of h.store h.root h.past h.seq; turns = h.turns } };
 
-    ghost invariant = { λ h. IsKept h.table h.weight h.next h.used h.past h.seq h.turns };
+    ghost invariant = { λ h. IsKept h.store h.root h.table h.past h.seq h.turns };
 }
 
 impl Host {
@@ -72,13 +63,12 @@ impl Host {
         ensures turns { IfOk result (λ h. h.turns ≡ 0) }
     {
         let table = Table::of(alloc, first)?;
-        let weight = table.weight();
+        let mut store = Store::new(alloc)?;
+        let root = load_first(&mut store, alloc, first)?;
         Ok(Host {
+            store,
+            root,
             table,
-            weight,
-            root: 1,
-            next: 2,
-            used: weight,
             past: 0,
             seq: 0,
             turns: 0,
@@ -103,7 +93,7 @@ impl Host {
         match command {
             Command::Apply { patches } => self.apply(alloc, patches),
             Command::State { path } => self.state(alloc, path),
-            Command::Node { path } => self.node(alloc, path),
+            Command::Node { path } => Ok(self.node(path)),
             Command::Stat => Ok(self.stat()),
         }
     }
@@ -133,46 +123,22 @@ impl Host {
         ensures turns { IfOk result (λ r. r.0.turns ≡ self.turns + 1) }
         ensures err { IfErr result (λ h. h ≡ self) }
     {
-        match self.value_at(alloc, &path) {
+        match value_at(&self.store, alloc, self.root, &path) {
             Ok(Some(value)) => Ok((self.turned(), Reply::State { value })),
             Ok(None) => Ok(self.unfound(Word::State)),
             Err(_) => Err(self),
         }
     }
 
-    /// What stands at a path.
-    fn value_at(&self, alloc: Global, path: &Path) -> Result<Option<Val>, AllocError>
-        ensures { IfOk result (λ v. v ≡ at path.now (value self.now.machine)) }
-    {
-        self.table.value_at(alloc, path)
-    }
-
     /// Shows the number of what stands at a path.
-    fn node(self, alloc: Global, path: Path) -> Result<(Host, Reply), Host>
-        requires turns { self.turns < 2 ^ 48 }
-        ensures step { IfOk result (λ r. (r.0.machine, r.1) ≡ node_shown self.machine (subtree_at path self.machine.state)) }
-        ensures turns { IfOk result (λ r. r.0.turns ≡ self.turns + 1) }
-        ensures err { IfErr result (λ h. h ≡ self) }
+    fn node(self, path: Path) -> (Host, Reply)
+        requires { self.turns < 2 ^ 48 }
+        ensures step { (result.0.machine, result.1) ≡ node_shown self.machine (subtree_at path self.machine.state) }
+        ensures turns { result.0.turns ≡ self.turns + 1 }
     {
-        match self.number_at(alloc, &path) {
-            Ok(Some(node)) => Ok((self.turned(), Reply::Node { node })),
-            Ok(None) => Ok(self.unfound(Word::Node)),
-            Err(_) => Err(self),
-        }
-    }
-
-    /// The number of the container at a path, or None within where a primitive stands there.
-    fn number_at(&self, alloc: Global, path: &Path) -> Result<Option<Option<u64>>, AllocError>
-        ensures { IfOk result (λ n. n ≡ option_map number_if (subtree_at path.now self.now.machine.state)) }
-    {
-        let root = self.root;
-        if path.as_slice().len() == 0 {
-            return Ok(Some(Some(root)));
-        }
-        if self.table.has_place(alloc, path)? {
-            Ok(Some(None))
-        } else {
-            Ok(None)
+        match number_at(&self.store, self.root, &path) {
+            Some(node) => (self.turned(), Reply::Node { node }),
+            None => self.unfound(Word::Node),
         }
     }
 
@@ -183,12 +149,12 @@ impl Host {
         ensures turns { result.0.turns ≡ self.turns + 1 }
     {
         let reply = Reply::Stat {
-            nodes: self.next - 1,
+            nodes: self.store.len(),
             redo: 0,
             seq: self.seq,
             sessions: 0,
             undo: self.past,
-            used: self.used,
+            used: self.store.used(),
         };
         (self.turned(), reply)
     }
@@ -222,38 +188,24 @@ impl Host {
         ensures turns { IfOk result (λ r. r.0.turns ≡ self.turns + 1) }
         ensures err { IfErr result (λ h. h ≡ self) }
     {
-        let weight = table.weight();
-        if weight > MAX_WEIGHT {
+        if table.weight() > MAX_WEIGHT {
             return Ok(self.refused(None, Refusal::TooBig));
         }
-        if self.is_full(weight) {
-            return Ok(self.refused(None, Refusal::Full));
+        let mut host = self;
+        match keep(&mut host.store, alloc, &host.table, &table) {
+            Ok(change) => {
+                host.root = change.root;
+                host.table = table;
+                host.past = (host.past + 1).min(MAX_PAST);
+                host.seq += 1;
+                host.turns += 1;
+                let reply = host.accepted(change.pair);
+                Ok((host, reply))
+            }
+            Err(ChangeStop::Full) => Ok(host.refused(None, Refusal::Full)),
+            Err(ChangeStop::PatchesTooBig) => Ok(host.refused(None, Refusal::PatchesTooBig)),
+            Err(ChangeStop::Memory) => Err(host),
         }
-        let Ok(pair) = self.pair_to(alloc, &table) else {
-            return Err(self);
-        };
-        if is_heavy(&pair) {
-            return Ok(self.refused(None, Refusal::PatchesTooBig));
-        }
-        Ok(self.changed(table, weight, pair))
-    }
-
-    /// Whether there is no number or no room for a state of that weight.
-    fn is_full(&self, weight: u64) -> bool
-        requires { weight ≤ 2 ^ 20 }
-        ensures { result ≡ is_full_of self.now.machine weight }
-    {
-        self.next == MAX_NUMBER || self.used + weight > MAX_USED
-    }
-
-    /// The patches to the state of a table, and back.
-    fn pair_to(&self, alloc: Global, table: &Table) -> Result<Pair, AllocError>
-        ensures { IfOk result (λ p. p ≡ between (value self.now.machine) (state_of table.now)) }
-    {
-        Ok(Pair {
-            forward: differences(alloc, &self.table, table)?,
-            inverse: differences(alloc, table, &self.table)?,
-        })
     }
 
     /// The host after a refused command, which left all as it was.
@@ -286,39 +238,22 @@ impl Host {
         Reply::Changed {
             word: Word::Apply,
             pair,
-            root: self.root,
+            root: self.root.get(),
             seq: self.seq,
         }
     }
-
-    /// The host after a change: the state of the table has the next number.
-    fn changed(self, table: Table, weight: u64, pair: Pair) -> (Host, Reply)
-        requires turns { self.turns < 2 ^ 48 }
-        requires flat { IsTrue (is_flat_table table) }
-        requires weight { weight ≡ weight_of (state_of table) }
-        requires small { weight ≤ 2 ^ 20 }
-        requires room { is_full_of self.machine weight ≡ false }
-        ensures step { (result.0.machine, result.1) ≡ accepted (with_state self.machine (state_of table)) pair }
-        ensures turns { result.0.turns ≡ self.turns + 1 }
-    {
-        let mut host = self;
-        host.table = table;
-        host.weight = weight;
-        host.root = host.next;
-        host.next += 1;
-        host.used += weight;
-        host.past = (host.past + 1).min(MAX_PAST);
-        host.seq += 1;
-        host.turns += 1;
-        let reply = host.accepted(pair);
-        (host, reply)
-    }
 }
 
-fn is_heavy(pair: &Pair) -> bool
-    ensures { result ≡ is_heavy_of pair.now }
+/// Loads the first state, which gets the number 1.
+fn load_first(store: &mut Store, alloc: Global, first: &Val) -> Result<NodeId, AllocError>
+    requires empty { store.old ≡ [] }
+    requires accepted { state_limit first.now ≡ None }
+    requires flat { IsTrue (is_flat first.now) }
+    ensures { IfOk result (λ id. (id ≡ 1) × (store.new ≡ loaded [] first.now)) }
 {
-    let forward = patches_weight(&pair.forward);
-    let inverse = patches_weight(&pair.inverse);
-    forward.saturating_add(inverse) > MAX_PATCHES
+    match store.load(alloc, first) {
+        Ok(id) => Ok(id),
+        Err(StoreFault::Memory) => Err(AllocError),
+        Err(StoreFault::Full) => unreachable!(),
+    }
 }

@@ -3,10 +3,12 @@
 //! What it does is the host machine of `host_machine`.
 #![tactic(auto)]
 
+mod change;
 mod edits;
 mod host;
 mod name;
 mod pairs;
+mod places;
 mod table;
 
 pub use host::Host;

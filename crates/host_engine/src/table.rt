@@ -1,4 +1,4 @@
-ghost use Rattle.std.specs.Prelude.{◌≡◌, ◌≤◌, ◌^◌, ◌+◌, [], min, map, length, IfOk, IsTrue, Some, None, not, option_map, is_some};
+ghost use Rattle.std.specs.Prelude.{◌≡◌, ◌≤◌, ◌^◌, ◌+◌, [], min, map, length, IfOk, IsTrue, Some, None, not, option_map};
 ghost use Rattle.std.specs.FinMap.Entries.{find, put, is_sorted};
 ghost use Rattle.value_model.specs.Order.{key_cmp};
 ghost use Rattle.value_model.specs.Places.{without_key};
@@ -7,18 +7,16 @@ ghost use Rattle.value_model.specs.Search.{IsPlace};
 ghost use Rattle.value_model.specs.declared.key.Key.TheVariants as key;
 ghost use Rattle.value_model.specs.declared.words.Kind.TheVariants as kind;
 ghost use Rattle.host_machine.specs.Differences.{same, same_table};
-ghost use Rattle.value_model.specs.Places as spec;
 ghost use Rattle.host_machine.specs.Flat.{is_field_key, is_flat, is_flat_table};
 ghost use Rattle.values.specs.Seen.{of_field as of_object_field};
 ghost use Rattle.host_engine.specs.Kept.{of_field, number_of, state_of};
 
 use crate::edits::integer_in;
 use crate::name::Name;
-use plain_values::{Field as ObjField, Key, Node, Path, Safe, Text, Val};
+use plain_values::{Field as ObjField, Node, Safe, Text, Val};
 use std::alloc::{AllocError, Global};
 use std::cmp::Ordering;
 use std::marker::Model;
-use value_checks::at;
 
 /// An integer under its name.
 #[derive(Drop)]
@@ -91,35 +89,6 @@ impl Table {
         })
     }
 
-    /// The object of these entries.
-    pub fn to_value(&self, alloc: Global) -> Result<Val, AllocError>
-        ensures { IfOk result (λ v. v ≡ state_of self.now) }
-    {
-        let fields = object_fields(alloc, &self.fields)?;
-        Ok(Val {
-            node: Node::Obj(fields),
-        })
-    }
-
-    /// What stands at a path of that object.
-    pub fn value_at(&self, alloc: Global, path: &Path) -> Result<Option<Val>, AllocError>
-        ensures { IfOk result (λ v. v ≡ spec.at path.now (state_of self.now)) }
-    {
-        let object = self.to_value(alloc)?;
-        match at(&object, path) {
-            Some(value) => Ok(Some(value.copy(alloc)?)),
-            None => Ok(None),
-        }
-    }
-
-    /// Whether something stands at a path of that object.
-    pub fn has_place(&self, alloc: Global, path: &Path) -> Result<bool, AllocError>
-        ensures { IfOk result (λ b. b ≡ is_some (spec.at path.now (state_of self.now))) }
-    {
-        let object = self.to_value(alloc)?;
-        Ok(at(&object, path).is_some())
-    }
-
     /// The entries in the order of their names.
     pub fn fields(&self) -> &[Field]
         ensures value { map of_field result.now ≡ self.now }
@@ -180,19 +149,6 @@ fn copy_fields(alloc: Global, fields: &Vec<Field>) -> Result<Vec<Field>, AllocEr
         out.push(Field {
             name: f.name.share()?,
             number: f.number,
-        })?;
-    }
-    Ok(out)
-}
-
-fn object_fields(alloc: Global, fields: &[Field]) -> Result<Vec<ObjField>, AllocError>
-    ensures { IfOk result (λ w. map of_object_field w.items ≡ map of_field fields.now) }
-{
-    let mut out = Vec::with_capacity(alloc, fields.len())?;
-    for f in fields {
-        out.push(ObjField {
-            key: f.name.text().copy(alloc)?,
-            value: Val::primitive(Key::Int(f.number)),
         })?;
     }
     Ok(out)

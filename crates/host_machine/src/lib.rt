@@ -1,5 +1,6 @@
 //! The host machine on a flat state: what a host does, on plain deep copies. Definitions, and the laws of its patches.
 #![tactic(auto)]
+
 ghost use Rattle.std.specs.Prelude.{◌≡◌, List, option_map};
 ghost use Rattle.value_model.specs.Places.{at};
 ghost use Rattle.value_model.specs.declared.key.Key.{Key};

@@ -13,9 +13,13 @@ pub enum Reply {
         seq: u64,
     },
     /// What stands at the path.
-    State { value: Val },
+    State {
+        value: Val,
+    },
     /// The number of the container at the path; None where a primitive stands there.
-    Node { node: Option<u64> },
+    Node {
+        node: Option<u64>,
+    },
     /// What the host counts: the numbers that were given, the entries that a redo and an undo may take, the changes, the
     /// active sessions, and the own weights of all numbers together.
     Stat {

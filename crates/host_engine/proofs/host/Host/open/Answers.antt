@@ -1,17 +1,18 @@
-use Rattle.std.proofs.Common.{◌≡◌, ◌≤◌, ◌^◌, ◌∙◌, sym, ap, ℕ, min, arith}
-use Rattle.numbered.specs.Loading.{numbered}
-use Rattle.value_model.specs.Limits.{state_limit}
-use Rattle.numbered.specs.Laws.{small_state}
-use Rattle.host_machine.specs.Machine.{Machine, opened}
-use Rattle.host_machine.proofs.NumberLaws.{flat_opened}
-use Rattle.host_engine.specs.Kept.{state_of}
+use Rattle.std.proofs.Common.{◌∙◌, sym, ap, []}
+use Rattle.numbered.specs.Loading.{loaded}
+use Rattle.host_machine.specs.Machine.{opened}
+use Rattle.host_engine.proofs.HostLaws.{flat_state, opened_kept, opened_machine}
 use Rattle.host_engine.proofs.host.Host.open.Goals as goal
 
-within : {a : ℕ} → a ≤ 2 ^ 20 → min a (2 ^ 63) ≡ a
-within h = omega (arith, h)
+pub invariant_of-result : goal.invariant_of-result
+invariant_of-result c =
+    let es = c.in_ok-table.table in
+    let flat = flat_state es c.args.first.now c.in_ok-table.ensures c.requires.flat in
+    opened_kept es c.load_first.new.store c.in_ok-root.root flat c.in_ok-root.ensures.0 (c.in_ok-root.ensures.1 ∙ ap (loaded []) (sym c.in_ok-table.ensures))
 
 pub returns-clause-machine : goal.returns-clause-machine
 returns-clause-machine c =
     let es = c.in_ok-table.table in
-    ap (λ (n : ℕ). let m : Machine = record { state = numbered 1 (state_of es); next = 2; used = n; past = 0; seq = 0 } in m) (c.weight-weight.ensures.value ∙ within (small_state (state_of es) (ap state_limit c.in_ok-table.ensures ∙ c.requires.accepted)).weight)
-    ∙ sym (flat_opened es c.weight-weight.ensures.flat) ∙ ap opened c.in_ok-table.ensures
+    let flat = flat_state es c.args.first.now c.in_ok-table.ensures c.requires.flat in
+    opened_machine es c.load_first.new.store c.in_ok-root.root flat c.in_ok-root.ensures.0 (c.in_ok-root.ensures.1 ∙ ap (loaded []) (sym c.in_ok-table.ensures))
+    ∙ ap opened c.in_ok-table.ensures

@@ -1,8 +1,5 @@
-use Rattle.std.proofs.Common.{map, rules}
-use Rattle.std.specs.Prelude.{IsTrue}
-use Rattle.value_model.specs.Plain.{Table as TableOf}
+use Rattle.std.proofs.Common.{rules}
 use Rattle.value_model.specs.Steps.{list_of_entries}
-use Rattle.host_machine.specs.Flat.{is_flat_table}
 use Rattle.host_engine.proofs.table.Table.of.Goals as goal
 
 pub fields_of-requires : goal.fields_of-requires
