@@ -24,7 +24,7 @@ use Rattle.js_syntax.specs.declared.source.Stop.TheVariants as stop
 use Rattle.js_syntax.specs.declared.fault.SyntaxFault.{SyntaxFault}
 use Rattle.js_syntax.specs.declared.fault.SyntaxFault.TheVariants as fault
 use Rattle.js_syntax.specs.Reading.{Fails}
-use Rattle.js_syntax.specs.Faults.{IsFault, fault_of}
+use Rattle.js_syntax.specs.Faults.{IsCause, fault_of}
 use Rattle.js_syntax.proofs.Rules.{within}
 use Rattle.js_syntax.proofs.Seen.{toks_here, toks_end, or_more, some_token}
 
@@ -149,10 +149,10 @@ offset_here bytes tokens at t l = let e : drop at tokens ≡ slice_index_or toke
 pub offset_end : (bytes : List ℕ) (tokens : List Token) (at : ℕ) → length tokens ≤ at → offset_of bytes tokens at ≡ length bytes
 offset_end bytes tokens at l = rw (drop_all at tokens l) refl
 
-pub caused : (bytes : List ℕ) (tokens : List Token) (s : Stop) → Fails bytes tokens s (reducers_at levels (toks bytes tokens 0)) → fault_of bytes tokens s ≢ fault.Memory → IsFault bytes tokens (fault_of bytes tokens s)
-caused bytes tokens (stop.Unexpected k) h m = unexpected_at bytes tokens k h
-caused bytes tokens (stop.TooNested k) h m = nested_at bytes tokens k h
-caused bytes tokens stop.Memory h m = absurd (m refl)
+pub caused : (bytes : List ℕ) (tokens : List Token) (s : Stop) → Fails bytes tokens s (reducers_at levels (toks bytes tokens 0)) → IsCause bytes tokens (fault_of bytes tokens s)
+caused bytes tokens (stop.Unexpected k) h = unexpected_at bytes tokens k h
+caused bytes tokens (stop.TooNested k) h = nested_at bytes tokens k h
+caused bytes tokens stop.Memory h = tt
 
 -- a place is told by the tokens from it on
 toks_length : (bytes : List ℕ) (k : ℕ) (ts : List Token) → length (seen_from bytes k ts) ≡ length ts
@@ -173,25 +173,25 @@ one_fault o x y h k = cc
 apart : Unexpected ≡ TooNested → ⊥
 apart e = cc
 
-pub fault_none : (bytes : List ℕ) (tokens : List Token) (p : Program) (f : SyntaxFault) → IsFault bytes tokens f → reducers_at levels (toks bytes tokens 0) ≡ Ok (p, []) → ⊥
-fault_none bytes tokens p (fault.Unexpected at) f h = not_both (program levels (toks bytes tokens 0)) (p, []) (Unexpected, toks bytes tokens f.token) (program_read levels (toks bytes tokens 0) p h) ((exact levels (toks bytes tokens 0)).unexpected_only (toks bytes tokens f.token) f.first)
-fault_none bytes tokens p (fault.TooNested at) f h = not_both (program levels (toks bytes tokens 0)) (p, []) (TooNested, toks bytes tokens f.token) (program_read levels (toks bytes tokens 0) p h) ((exact levels (toks bytes tokens 0)).nested_only (toks bytes tokens f.token) f.first)
-fault_none bytes tokens p fault.Memory f h = f
+pub fault_none : (bytes : List ℕ) (tokens : List Token) (p : Program) (f : SyntaxFault) → f ≢ fault.Memory → IsCause bytes tokens f → reducers_at levels (toks bytes tokens 0) ≡ Ok (p, []) → ⊥
+fault_none bytes tokens p (fault.Unexpected at) n f h = not_both (program levels (toks bytes tokens 0)) (p, []) (Unexpected, toks bytes tokens f.token) (program_read levels (toks bytes tokens 0) p h) ((exact levels (toks bytes tokens 0)).unexpected_only (toks bytes tokens f.token) f.first)
+fault_none bytes tokens p (fault.TooNested at) n f h = not_both (program levels (toks bytes tokens 0)) (p, []) (TooNested, toks bytes tokens f.token) (program_read levels (toks bytes tokens 0) p h) ((exact levels (toks bytes tokens 0)).nested_only (toks bytes tokens f.token) f.first)
+fault_none bytes tokens p fault.Memory n f h = n refl
 
-pub fault_same : (bytes : List ℕ) (tokens : List Token) (s : Stop) (f : SyntaxFault) → IsFault bytes tokens f → Fails bytes tokens s (reducers_at levels (toks bytes tokens 0)) → fault_of bytes tokens s ≢ fault.Memory → fault_of bytes tokens s ≡ f
-fault_same bytes tokens s fault.Memory f h m = absurd f
-fault_same bytes tokens stop.Memory (fault.Unexpected at) f h m = absurd (m refl)
-fault_same bytes tokens stop.Memory (fault.TooNested at) f h m = absurd (m refl)
-fault_same bytes tokens (stop.Unexpected k) (fault.Unexpected at) f h m =
+pub fault_same : (bytes : List ℕ) (tokens : List Token) (s : Stop) (f : SyntaxFault) → f ≢ fault.Memory → IsCause bytes tokens f → Fails bytes tokens s (reducers_at levels (toks bytes tokens 0)) → fault_of bytes tokens s ≢ fault.Memory → fault_of bytes tokens s ≡ f
+fault_same bytes tokens s fault.Memory n f h m = absurd (n refl)
+fault_same bytes tokens stop.Memory (fault.Unexpected at) n f h m = absurd (m refl)
+fault_same bytes tokens stop.Memory (fault.TooNested at) n f h m = absurd (m refl)
+fault_same bytes tokens (stop.Unexpected k) (fault.Unexpected at) n f h m =
     let e = one_fault (program levels (toks bytes tokens 0)) (Unexpected, toks bytes tokens f.token) (Unexpected, toks bytes tokens k) ((exact levels (toks bytes tokens 0)).unexpected_only (toks bytes tokens f.token) f.first) (program_fault levels (toks bytes tokens 0) (Unexpected, toks bytes tokens k) h) in
     ap fault.Unexpected (sym (f.begins ∙ same_place bytes tokens f.token k f.within (ap (λ (w : Why × Toks). w.1) e)))
-fault_same bytes tokens (stop.TooNested k) (fault.TooNested at) f h m =
+fault_same bytes tokens (stop.TooNested k) (fault.TooNested at) n f h m =
     let e = one_fault (program levels (toks bytes tokens 0)) (TooNested, toks bytes tokens f.token) (TooNested, toks bytes tokens k) ((exact levels (toks bytes tokens 0)).nested_only (toks bytes tokens f.token) f.first) (program_fault levels (toks bytes tokens 0) (TooNested, toks bytes tokens k) h) in
     ap fault.TooNested (sym (f.begins ∙ same_place bytes tokens f.token k f.within (ap (λ (w : Why × Toks). w.1) e)))
-fault_same bytes tokens (stop.TooNested k) (fault.Unexpected at) f h m =
+fault_same bytes tokens (stop.TooNested k) (fault.Unexpected at) n f h m =
     let e = one_fault (program levels (toks bytes tokens 0)) (Unexpected, toks bytes tokens f.token) (TooNested, toks bytes tokens k) ((exact levels (toks bytes tokens 0)).unexpected_only (toks bytes tokens f.token) f.first) (program_fault levels (toks bytes tokens 0) (TooNested, toks bytes tokens k) h) in
     absurd (apart (ap (λ (w : Why × Toks). w.0) e))
-fault_same bytes tokens (stop.Unexpected k) (fault.TooNested at) f h m =
+fault_same bytes tokens (stop.Unexpected k) (fault.TooNested at) n f h m =
     let e = one_fault (program levels (toks bytes tokens 0)) (TooNested, toks bytes tokens f.token) (Unexpected, toks bytes tokens k) ((exact levels (toks bytes tokens 0)).nested_only (toks bytes tokens f.token) f.first) (program_fault levels (toks bytes tokens 0) (Unexpected, toks bytes tokens k) h) in
     absurd (apart (sym (ap (λ (w : Why × Toks). w.0) e)))
 

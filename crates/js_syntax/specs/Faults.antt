@@ -7,11 +7,11 @@ use Rattle.js_syntax.specs.declared.source.Stop.TheVariants as stop
 use Rattle.js_syntax.specs.declared.fault.SyntaxFault.{SyntaxFault}
 use Rattle.js_syntax.specs.declared.fault.SyntaxFault.TheVariants as fault
 
--- the tokens are no program for this cause: its token is the first that is unexpected, or that opens a level too many
-abbrev pub IsFault : List ℕ → List Token → SyntaxFault → Type 0
-IsFault source tokens (fault.Unexpected at) = UnexpectedAt source tokens at
-IsFault source tokens (fault.TooNested at) = TooNestedAt source tokens at
-IsFault source tokens fault.Memory = ⊥
+-- its token is the first that is unexpected, or that opens a level too many; of memory nothing is said
+abbrev pub IsCause : List ℕ → List Token → SyntaxFault → Type 0
+IsCause source tokens (fault.Unexpected at) = UnexpectedAt source tokens at
+IsCause source tokens (fault.TooNested at) = TooNestedAt source tokens at
+IsCause source tokens fault.Memory = Unit {0}
 
 -- the fault of a reading that stopped at a token
 abbrev pub fault_of : List ℕ → List Token → Stop → SyntaxFault

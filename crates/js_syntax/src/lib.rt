@@ -5,7 +5,7 @@ ghost use Rattle.std.specs.Prelude.{◌≡◌, ◌≢◌, IfOk, IfErr, MatchResu
 ghost use Rattle.script_grammar.specs.Sources.{Spells};
 ghost use Rattle.script_grammar.specs.Trees.{Program};
 ghost use Rattle.script_tree.specs.View.{program_of};
-ghost use Rattle.js_syntax.specs.Faults.{IsFault};
+ghost use Rattle.js_syntax.specs.Faults.{IsCause};
 ghost use Rattle.js_syntax.specs.declared.fault.SyntaxFault.{SyntaxFault};
 ghost use Rattle.js_syntax.specs.declared.fault.SyntaxFault.TheVariants as fault;
 
@@ -42,8 +42,8 @@ pub fn read_program(
 ) -> Result<Items<Reducer>, SyntaxFault>
     ensures spells { IfOk result (λ rs. Spells source.now tokens.now (program_of rs)) }
     ensures only { (p : Program) → Spells source.now tokens.now p → MatchResult result (λ rs. program_of rs ≡ p) (λ f. f ≡ fault.Memory) }
-    ensures fault { IfErr result (λ f. f ≢ fault.Memory → IsFault source.now tokens.now f) }
-    ensures no_other { (f : SyntaxFault) → IsFault source.now tokens.now f → MatchResult result (λ rs. ⊥) (λ g. g ≢ fault.Memory → g ≡ f) }
+    ensures fault { IfErr result (λ f. IsCause source.now tokens.now f) }
+    ensures no_other { (f : SyntaxFault) → f ≢ fault.Memory → IsCause source.now tokens.now f → MatchResult result (λ rs. ⊥) (λ g. g ≢ fault.Memory → g ≡ f) }
 {
     let level = Level {
         alloc,
