@@ -1,0 +1,180 @@
+-- What each name of a program is: the slot of its variable, or what is wrong with it.
+--
+-- A use belongs to the innermost scope that declares its name: a block, or a reducer's parameters with the outer block
+-- of its body. It has to stand behind the end of the declaration, also where an outer scope declares the same name. A
+-- scope declares a name once, and a program has one reducer of a name. Words behind a dot and before a colon are no
+-- names of variables.
+use Rattle.std.specs.Prelude.{ℕ, ◌+◌, if◌then◌else◌, List, [], ◌∷◌, ◌++◌, map, Option, Some, None, option_map, Result, Ok, Err}
+use Rattle.std.specs.List.{list_any}
+use Rattle.std.specs.Str.{bytes_eq}
+use Rattle.script_grammar.specs.Trees.{Ex, Literal, Var, Round, ListOf, Object, Member, Unary, Chain, Choice, Elems, NoElems, LastElem, ThenElem, Prop, Keyed, Quoted, Short, Props, NoProps, LastProp, ThenProp, Suffix, Dot, Index, Suffixes, NoSuffixes, ThenSuffix, Links, NoLinks, ThenLink, Stmt, Block, Empty, IfThen, IfElse, Return, ReturnOf, Throw, ThrowError, Delete, Set, Do, Item, Const, Let, LetBe, Plain, Items, NoItems, ThenItem, Params, One, Two, Reducer, Function, Program, NoReducers, ThenReducer}
+pub use Rattle.script_names.specs.declared.Cause.{Cause}
+use Rattle.script_names.specs.declared.Cause.TheVariants.{UnknownName, Duplicate, ConstWrite}
+use Rattle.script_names.specs.declared.Binding.{Binding}
+use Rattle.script_names.specs.declared.Binding.TheVariants.{Variable, Constant}
+use Rattle.script_names.specs.Environments.{Env, empty, enter, declared}
+
+-- a name in the text: the number of its token, and its bytes
+abbrev pub Name : Type 0
+Name = ℕ × List ℕ
+
+-- the number of a token with the slot of its variable, or what is wrong with it
+abbrev pub Judged : Type 0
+Judged = Result (ℕ × ℕ) (Cause × ℕ)
+
+-- ---- the names of variables in an expression, in the text's order
+abbrev mutual
+  pub uses : Ex → List Name
+  uses (Literal l) = []
+  uses (Var at x) = (at, x) ∷ []
+  uses (Round e) = uses e
+  uses (ListOf es) = uses_elems es
+  uses (Object ps) = uses_props ps
+  uses (Member e s ss) = uses e ++ (uses_suffix s ++ uses_suffixes ss)
+  uses (Unary s e) = uses e
+  uses (Chain k a s b ls) = uses a ++ (uses b ++ uses_links ls)
+  uses (Choice c a b) = uses c ++ (uses a ++ uses b)
+
+  pub uses_elems : Elems → List Name
+  uses_elems NoElems = []
+  uses_elems (LastElem e) = uses e
+  uses_elems (ThenElem e es) = uses e ++ uses_elems es
+
+  pub uses_prop : Prop → List Name
+  uses_prop (Keyed w e) = uses e
+  uses_prop (Quoted bytes e) = uses e
+  uses_prop (Short at x) = (at, x) ∷ []
+
+  pub uses_props : Props → List Name
+  uses_props NoProps = []
+  uses_props (LastProp p) = uses_prop p
+  uses_props (ThenProp p ps) = uses_prop p ++ uses_props ps
+
+  pub uses_suffix : Suffix → List Name
+  uses_suffix (Dot w) = []
+  uses_suffix (Index e) = uses e
+
+  pub uses_suffixes : Suffixes → List Name
+  uses_suffixes NoSuffixes = []
+  uses_suffixes (ThenSuffix s ss) = uses_suffix s ++ uses_suffixes ss
+
+  pub uses_links : Links → List Name
+  uses_links NoLinks = []
+  uses_links (ThenLink s e ls) = uses e ++ uses_links ls
+
+-- ---- one name
+abbrev pub read_as : ℕ → Option Binding → Judged
+read_as at (Some (Variable slot)) = Ok (at, slot)
+read_as at (Some (Constant slot)) = Ok (at, slot)
+read_as at _ = Err (UnknownName, at)
+
+-- a use that reads
+abbrev pub read : Env → Name → Judged
+read env n = read_as n.0 (env.bound n.1)
+
+abbrev pub reads : Env → Ex → List Judged
+reads env e = map (read env) (uses e)
+
+abbrev pub write_as : ℕ → Option Binding → Judged
+write_as at (Some (Variable slot)) = Ok (at, slot)
+write_as at (Some (Constant slot)) = Err (ConstWrite, at)
+write_as at _ = Err (UnknownName, at)
+
+-- what stands before `=`: a name that is assigned to, or a member, whose object and key are read
+abbrev pub writes : Env → Ex → List Judged
+writes env (Var at x) = write_as at (env.bound x) ∷ []
+writes env e = reads env e
+
+abbrev pub declare_as : ℕ → ℕ → Option Binding → Judged
+declare_as at slot (Some (Variable s)) = Err (Duplicate, at)
+declare_as at slot (Some (Constant s)) = Err (Duplicate, at)
+declare_as at slot _ = Ok (at, slot)
+
+-- a name that is declared: its scope has bound it, so it is set where the scope has declared it before
+abbrev pub declare : Env → Name → Judged
+declare env n = declare_as n.0 env.count (env.bound n.1)
+
+-- ---- statements
+-- the names that a block declares, in the text's order, without those of the blocks in it
+abbrev pub declares : Items → List (List ℕ)
+declares NoItems = []
+declares (ThenItem (Const at x e) is) = x ∷ declares is
+declares (ThenItem (Let at x) is) = x ∷ declares is
+declares (ThenItem (LetBe at x e) is) = x ∷ declares is
+declares (ThenItem (Plain s) is) = declares is
+
+-- behind an item of a block
+abbrev pub after : Env → Item → Env
+after env (Const at x e) = declared Constant env x
+after env (Let at x) = declared Variable env x
+after env (LetBe at x e) = declared Variable env x
+after env (Plain s) = env
+
+abbrev mutual
+  pub judged : Env → Stmt → List Judged
+  judged env (Block is) = judged_items (enter (declares is) env) is
+  judged env Empty = []
+  judged env (IfThen e s) = reads env e ++ judged env s
+  judged env (IfElse e s t) = reads env e ++ (judged env s ++ judged env t)
+  judged env Return = []
+  judged env (ReturnOf e) = reads env e
+  judged env (Throw e) = reads env e
+  judged env (ThrowError e) = reads env e
+  judged env (Delete e) = reads env e
+  judged env (Set t e) = writes env t ++ reads env e
+  judged env (Do e) = reads env e
+
+  pub judged_item : Env → Item → List Judged
+  judged_item env (Const at x e) = declare env (at, x) ∷ reads env e
+  judged_item env (Let at x) = declare env (at, x) ∷ []
+  judged_item env (LetBe at x e) = declare env (at, x) ∷ reads env e
+  judged_item env (Plain s) = judged env s
+
+  pub judged_items : Env → Items → List Judged
+  judged_items env NoItems = []
+  judged_items env (ThenItem i is) = judged_item env i ++ judged_items (after env i) is
+
+-- ---- reducers
+abbrev pub parameters : Params → List Name
+parameters (One at x) = (at, x) ∷ []
+parameters (Two at x at' x') = (at, x) ∷ (at', x') ∷ []
+
+-- the parameters of a reducer, and then its body
+abbrev pub judged_params : Env → List Name → Items → List Judged
+judged_params env [] is = judged_items env is
+judged_params env (n ∷ ns) is = declare env n ∷ judged_params (declared Variable env n.1) ns is
+
+-- the parameters and the outer block of the body are one scope
+abbrev pub scope_of : Params → Items → List (List ℕ)
+scope_of ps is = map (λ (n : Name). n.1) (parameters ps) ++ declares is
+
+abbrev pub judged_body : Params → Items → List Judged
+judged_body ps is = judged_params (enter (scope_of ps is) empty) (parameters ps) is
+
+abbrev pub reducer_name : Reducer → List ℕ
+reducer_name (Function at x ps is) = x
+
+-- the name of a reducer is no name of a variable; before are the names of the reducers before it
+abbrev pub judged_reducer : List (List ℕ) → Reducer → List Judged
+judged_reducer before (Function at x ps is) = if list_any (bytes_eq x) before then Err (Duplicate, at) ∷ [] else judged_body ps is
+
+abbrev pub judged_program : List (List ℕ) → Program → List Judged
+judged_program before NoReducers = []
+judged_program before (ThenReducer r rs) = judged_reducer before r ++ judged_program (reducer_name r ∷ before) rs
+
+-- ---- a program
+-- these slots and those that follow, or the first fault
+abbrev pub gathered : List (ℕ × ℕ) → List Judged → Result (List (ℕ × ℕ)) (Cause × ℕ)
+gathered slots [] = Ok slots
+gathered slots (Ok s ∷ js) = gathered (slots ++ s ∷ []) js
+gathered slots (Err f ∷ js) = Err f
+
+-- the slot of each name of a variable, by the number of its token and in the text's order, or the first fault in the
+-- text with the number of its token
+unfoldable pub names_of : Program → Result (List (ℕ × ℕ)) (Cause × ℕ)
+names_of p = gathered [] (judged_program [] p)
+
+-- the number of the reducer of this name among the reducers
+abbrev pub reducer_named : List ℕ → Program → Option ℕ
+reducer_named x NoReducers = None
+reducer_named x (ThenReducer r rs) = if bytes_eq x (reducer_name r) then Some 0 else option_map (λ n. n + 1) (reducer_named x rs)
