@@ -1,4 +1,4 @@
--- What each name of a program is: the slot of its variable, or what is wrong with it.
+-- What each name of a program is: the declaration that it belongs to, or what is wrong with it.
 --
 -- A use belongs to the innermost scope that declares its name: a block, or a reducer's parameters with the outer block
 -- of its body. It has to stand behind the end of the declaration, also where an outer scope declares the same name. A
@@ -12,13 +12,13 @@ pub use Rattle.script_names.specs.declared.Cause.{Cause}
 use Rattle.script_names.specs.declared.Cause.TheVariants.{UnknownName, Duplicate, ConstWrite}
 use Rattle.script_names.specs.declared.Binding.{Binding}
 use Rattle.script_names.specs.declared.Binding.TheVariants.{Variable, Constant}
-use Rattle.script_names.specs.Environments.{Env, empty, enter, declared}
+use Rattle.script_names.specs.Environments.{Env, empty, bind, enter}
 
 -- a name in the text: the number of its token, and its bytes
 abbrev pub Name : Type 0
 Name = ℕ × List ℕ
 
--- the number of a token with the slot of its variable, or what is wrong with it
+-- a name and the declaration that it belongs to, or what is wrong with a name, by the numbers of their tokens
 abbrev pub Judged : Type 0
 Judged = Result (ℕ × ℕ) (Cause × ℕ)
 
@@ -64,35 +64,35 @@ abbrev mutual
 
 -- ---- one name
 abbrev pub read_as : ℕ → Option Binding → Judged
-read_as at (Some (Variable slot)) = Ok (at, slot)
-read_as at (Some (Constant slot)) = Ok (at, slot)
+read_as at (Some (Variable d)) = Ok (at, d)
+read_as at (Some (Constant d)) = Ok (at, d)
 read_as at _ = Err (UnknownName, at)
 
 -- a use that reads
 abbrev pub read : Env → Name → Judged
-read env n = read_as n.0 (env.bound n.1)
+read env n = read_as n.0 (env n.1)
 
 abbrev pub reads : Env → Ex → List Judged
 reads env e = map (read env) (uses e)
 
 abbrev pub write_as : ℕ → Option Binding → Judged
-write_as at (Some (Variable slot)) = Ok (at, slot)
-write_as at (Some (Constant slot)) = Err (ConstWrite, at)
+write_as at (Some (Variable d)) = Ok (at, d)
+write_as at (Some (Constant d)) = Err (ConstWrite, at)
 write_as at _ = Err (UnknownName, at)
 
 -- what stands before `=`: a name that is assigned to, or a member, whose object and key are read
 abbrev pub writes : Env → Ex → List Judged
-writes env (Var at x) = write_as at (env.bound x) ∷ []
+writes env (Var at x) = write_as at (env x) ∷ []
 writes env e = reads env e
 
-abbrev pub declare_as : ℕ → ℕ → Option Binding → Judged
-declare_as at slot (Some (Variable s)) = Err (Duplicate, at)
-declare_as at slot (Some (Constant s)) = Err (Duplicate, at)
-declare_as at slot _ = Ok (at, slot)
+abbrev pub declare_as : ℕ → Option Binding → Judged
+declare_as at (Some (Variable d)) = Err (Duplicate, at)
+declare_as at (Some (Constant d)) = Err (Duplicate, at)
+declare_as at _ = Ok (at, at)
 
 -- a name that is declared: its scope has bound it, so it is set where the scope has declared it before
 abbrev pub declare : Env → Name → Judged
-declare env n = declare_as n.0 env.count (env.bound n.1)
+declare env n = declare_as n.0 (env n.1)
 
 -- ---- statements
 -- the names that a block declares, in the text's order, without those of the blocks in it
@@ -105,9 +105,9 @@ declares (ThenItem (Plain s) is) = declares is
 
 -- behind an item of a block
 abbrev pub after : Env → Item → Env
-after env (Const at x e) = declared Constant env x
-after env (Let at x) = declared Variable env x
-after env (LetBe at x e) = declared Variable env x
+after env (Const at x e) = bind env x (Constant at)
+after env (Let at x) = bind env x (Variable at)
+after env (LetBe at x e) = bind env x (Variable at)
 after env (Plain s) = env
 
 abbrev mutual
@@ -142,7 +142,7 @@ parameters (Two at x at' x') = (at, x) ∷ (at', x') ∷ []
 -- the parameters of a reducer, and then its body
 abbrev pub judged_params : Env → List Name → Items → List Judged
 judged_params env [] is = judged_items env is
-judged_params env (n ∷ ns) is = declare env n ∷ judged_params (declared Variable env n.1) ns is
+judged_params env (n ∷ ns) is = declare env n ∷ judged_params (bind env n.1 (Variable n.0)) ns is
 
 -- the parameters and the outer block of the body are one scope
 abbrev pub scope_of : Params → Items → List (List ℕ)
@@ -151,28 +151,33 @@ scope_of ps is = map (λ (n : Name). n.1) (parameters ps) ++ declares is
 abbrev pub judged_body : Params → Items → List Judged
 judged_body ps is = judged_params (enter (scope_of ps is) empty) (parameters ps) is
 
+-- these names and those that follow, or the first fault
+abbrev pub gathered : List (ℕ × ℕ) → List Judged → Result (List (ℕ × ℕ)) (Cause × ℕ)
+gathered found [] = Ok found
+gathered found (Ok n ∷ js) = gathered (found ++ n ∷ []) js
+gathered found (Err f ∷ js) = Err f
+
 abbrev pub reducer_name : Reducer → List ℕ
 reducer_name (Function at x ps is) = x
 
--- the name of a reducer is no name of a variable; before are the names of the reducers before it
-abbrev pub judged_reducer : List (List ℕ) → Reducer → List Judged
-judged_reducer before (Function at x ps is) = if list_any (bytes_eq x) before then Err (Duplicate, at) ∷ [] else judged_body ps is
-
-abbrev pub judged_program : List (List ℕ) → Program → List Judged
-judged_program before NoReducers = []
-judged_program before (ThenReducer r rs) = judged_reducer before r ++ judged_program (reducer_name r ∷ before) rs
+-- The names of variables in a reducer. Its own name is none of them; before are the names of the reducers before it.
+abbrev pub names_in : List (List ℕ) → Reducer → Result (List (ℕ × ℕ)) (Cause × ℕ)
+names_in before (Function at x ps is) = if list_any (bytes_eq x) before then Err (Duplicate, at) else gathered [] (judged_body ps is)
 
 -- ---- a program
--- these slots and those that follow, or the first fault
-abbrev pub gathered : List (ℕ × ℕ) → List Judged → Result (List (ℕ × ℕ)) (Cause × ℕ)
-gathered slots [] = Ok slots
-gathered slots (Ok s ∷ js) = gathered (slots ++ s ∷ []) js
-gathered slots (Err f ∷ js) = Err f
+abbrev pub onto : {A E : Type 0} → Result A E → Result (List A) E → Result (List A) E
+onto (Ok a) (Ok more) = Ok (a ∷ more)
+onto (Ok a) (Err e) = Err e
+onto (Err e) more = Err e
 
--- the slot of each name of a variable, by the number of its token and in the text's order, or the first fault in the
--- text with the number of its token
-unfoldable pub names_of : Program → Result (List (ℕ × ℕ)) (Cause × ℕ)
-names_of p = gathered [] (judged_program [] p)
+abbrev pub names_behind : List (List ℕ) → Program → Result (List (List (ℕ × ℕ))) (Cause × ℕ)
+names_behind before NoReducers = Ok []
+names_behind before (ThenReducer r rs) = onto (names_in before r) (names_behind (reducer_name r ∷ before) rs)
+
+-- for each reducer its names of variables in the text's order, each with the declaration that it belongs to; or the
+-- first fault in the text
+unfoldable pub names_of : Program → Result (List (List (ℕ × ℕ))) (Cause × ℕ)
+names_of p = names_behind [] p
 
 -- the number of the reducer of this name among the reducers
 abbrev pub reducer_named : List ℕ → Program → Option ℕ

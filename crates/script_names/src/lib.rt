@@ -1,7 +1,8 @@
-//! The names of a program: which variable each of them stands for, or what is wrong with it. Definitions alone.
+//! The names of a program: the declaration that each of them belongs to, or what is wrong with it. Definitions alone.
 //!
 //! They stand in `specs/`: `Environments` (what names stand for at a place of a program), `Names` (what each name of a
-//! program is, in the text's order, and the first fault), `Examples` (worked rows).
+//! program is, in the text's order, and the first fault), `Slots` (numbers for the variables of a reducer), `Examples`
+//! (worked rows).
 #![tactic(auto)]
 
 /// What is wrong with a name.
@@ -15,13 +16,11 @@ pub enum Cause {
     ConstWrite,
 }
 
-/// What a name stands for.
+/// What a name stands for. A variable and a constant are named by the token of their declaration.
 #[derive(Clone, Copy, Debug, Drop)]
 pub enum Binding {
-    /// A variable that its scope declares further on: the declaration has not ended.
+    /// Its scope declares it further on: the declaration has not ended.
     Unset,
-    /// The variable of this slot.
     Variable(usize),
-    /// The constant of this slot.
     Constant(usize),
 }
