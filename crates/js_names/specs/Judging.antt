@@ -1,0 +1,53 @@
+-- What a step over names has to answer: the names so far and its own, with their declarations, or the first fault.
+use Rattle.std.specs.Prelude.{◌≡◌, ℕ, Bool, true, false, List, [], ◌∷◌, ◌++◌, map, Result, Ok, Err}
+use Rattle.script_names.specs.Environments.{Env}
+use Rattle.script_names.specs.Names.{Judged, reads, read, uses_prop, uses_suffix, gathered}
+use Rattle.script_text.specs.declared.sign.Sign.{Sign}
+use Rattle.script_tree.specs.declared.Expr.{Expr}
+use Rattle.script_tree.specs.declared.Label.{Label}
+use Rattle.script_tree.specs.declared.Access.{Access}
+use Rattle.script_tree.specs.declared.Access.TheVariants as access
+use Rattle.script_tree.specs.View.{view, prop_of, suffix_of, index_of}
+use Rattle.js_names.specs.declared.fault.NameFault.{NameFault}
+use Rattle.js_names.specs.declared.fault.NameFault.TheVariants as fault
+
+abbrev pub Found : Type 0
+Found = List (ℕ × ℕ)
+
+abbrev pub Judges : Found → List Judged → Result (Unit {0}) NameFault → Found → Type 0
+Judges before js (Ok u) now = gathered before js ≡ Ok now
+Judges before js (Err (fault.Wrong c at)) now = gathered before js ≡ Err (c, at)
+Judges before js (Err fault.Memory) now = Unit {0}
+
+-- the names of lists, one item after the other
+abbrev pub all_reads : Env → List Expr → List Judged
+all_reads env [] = []
+all_reads env (e ∷ es) = reads env (view e) ++ all_reads env es
+
+abbrev pub prop_reads : Env → Label × Expr → List Judged
+prop_reads env p = map (read env) (uses_prop (prop_of (p.0, view p.1)))
+
+abbrev pub all_props : Env → List (Label × Expr) → List Judged
+all_props env [] = []
+all_props env (p ∷ ps) = prop_reads env p ++ all_props env ps
+
+abbrev pub access_reads : Env → Access × List Expr → List Judged
+access_reads env a = map (read env) (uses_suffix (suffix_of (a.0, map view a.1)))
+
+abbrev pub is_index : Access → Bool
+is_index (access.Dot l) = false
+is_index access.Index = true
+
+abbrev pub index_reads : Env → List Expr → List Judged
+index_reads env es = map (read env) (uses_suffix (index_of (map view es)))
+
+abbrev pub all_accesses : Env → List (Access × List Expr) → List Judged
+all_accesses env [] = []
+all_accesses env (a ∷ more) = access_reads env a ++ all_accesses env more
+
+abbrev pub link_reads : Env → Sign × Expr → List Judged
+link_reads env l = reads env (view l.1)
+
+abbrev pub all_links : Env → List (Sign × Expr) → List Judged
+all_links env [] = []
+all_links env (l ∷ ls) = link_reads env l ++ all_links env ls

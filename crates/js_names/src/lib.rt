@@ -1,0 +1,8 @@
+//! Which variable each name of a program stands for.
+#![tactic(auto)]
+
+mod fault;
+mod scopes;
+mod uses;
+
+pub use fault::NameFault;
