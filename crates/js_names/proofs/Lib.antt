@@ -1,2 +1,3 @@
-pub mod Trail
 pub mod Reading
+pub mod Going
+pub mod Trail

@@ -1,6 +1,6 @@
 -- Steps over names, one after the other.
-use Rattle.std.proofs.lemmas.List.{at_drop_more}
-use Rattle.std.proofs.Common.{◌≡◌, ◌≢◌, ℕ, ◌+◌, ◌<◌, arith, length, drop, get_or, Bool, true, false, List, [], ◌∷◌, ◌++◌, map, Result, Ok, Err, IsTrue, ◌↔◌, refl, sym, ap, subst, ◌∙◌}
+use Rattle.std.proofs.lemmas.List.{at_drop_more, append-nil}
+use Rattle.std.proofs.Common.{◌≡◌, ◌≢◌, ℕ, ◌+◌, ◌<◌, arith, length, drop, get_or, Bool, true, false, List, [], ◌∷◌, ◌++◌, map, Result, Ok, Err, IsTrue, ◌↔◌, append_assoc, refl, sym, ap, subst, ◌∙◌}
 use Rattle.script_text.specs.declared.sign.Sign.{Sign}
 use Rattle.script_grammar.specs.Trees.{Ex}
 use Rattle.script_tree.specs.declared.Label.{Label}
@@ -12,29 +12,29 @@ use Rattle.script_tree.specs.View.{view, elems_of, props_of, prop_of, suffixes_o
 use Rattle.script_tree.proofs.Views.{view_list, view_object, view_member, view_chain, view_choice}
 use Rattle.script_names.specs.declared.Cause.{Cause}
 use Rattle.script_names.specs.Environments.{Env}
-use Rattle.script_names.specs.Names.{Name, Judged, gathered, read, reads, uses, uses_elems, uses_prop, uses_props, uses_suffix, uses_suffixes, uses_links}
+use Rattle.script_names.specs.Names.{Name, Judged, onto, gathered, read, reads, uses, uses_elems, uses_prop, uses_props, uses_suffix, uses_suffixes, uses_links}
 use Rattle.js_names.specs.declared.fault.NameFault.{NameFault}
 use Rattle.js_names.specs.declared.fault.NameFault.TheVariants as fault
-use Rattle.js_names.specs.Judging.{Found, Judges, all_reads, prop_reads, all_props, access_reads, all_accesses, all_links, is_index}
+use Rattle.js_names.specs.Judging.{Found, so_far, Judges, all_reads, prop_reads, all_props, access_reads, all_accesses, all_links, is_index}
 
 abbrev then : Result Found (Cause × ℕ) → List Judged → Result Found (Cause × ℕ)
-then (Ok found) js = gathered found js
+then (Ok found) js = so_far found js
 then (Err f) js = Err f
 
-gathered_append : (found : Found) (xs ys : List Judged) → gathered found (xs ++ ys) ≡ then (gathered found xs) ys
-gathered_append found [] ys = refl
-gathered_append found (Ok n ∷ xs) ys = gathered_append (found ++ n ∷ []) xs ys
-gathered_append found (Err f ∷ xs) ys = refl
+so_far_append : (found : Found) (xs ys : List Judged) → so_far found (xs ++ ys) ≡ then (so_far found xs) ys
+so_far_append found [] ys = refl
+so_far_append found (Ok n ∷ xs) ys = so_far_append (found ++ n ∷ []) xs ys
+so_far_append found (Err f ∷ xs) ys = refl
 
 -- the first part went well
-pub judges_on : (a b c : Found) (xs ys : List Judged) (r : Result (Unit {0}) NameFault) → gathered a xs ≡ Ok b → Judges b ys r c → Judges a (xs ++ ys) r c
-judges_on a b c xs ys (Ok u) e h = gathered_append a xs ys ∙ ap (λ r. then r ys) e ∙ h
-judges_on a b c xs ys (Err (fault.Wrong k at)) e h = gathered_append a xs ys ∙ ap (λ r. then r ys) e ∙ h
+pub judges_on : (a b c : Found) (xs ys : List Judged) (r : Result (Unit {0}) NameFault) → so_far a xs ≡ Ok b → Judges b ys r c → Judges a (xs ++ ys) r c
+judges_on a b c xs ys (Ok u) e h = so_far_append a xs ys ∙ ap (λ r. then r ys) e ∙ h
+judges_on a b c xs ys (Err (fault.Wrong k at)) e h = so_far_append a xs ys ∙ ap (λ r. then r ys) e ∙ h
 judges_on a b c xs ys (Err fault.Memory) e h = tt
 
 -- the first part did not
 pub judges_stop : (a b c : Found) (xs ys : List Judged) (f : NameFault) → Judges a xs (Err f) b → Judges a (xs ++ ys) (Err f) c
-judges_stop a b c xs ys (fault.Wrong k at) h = gathered_append a xs ys ∙ ap (λ r. then r ys) h
+judges_stop a b c xs ys (fault.Wrong k at) h = so_far_append a xs ys ∙ ap (λ r. then r ys) h
 judges_stop a b c xs ys fault.Memory h = tt
 
 -- ---- the names of expressions by their variants
@@ -134,12 +134,12 @@ Each {X} one all = (x : X) (xs : List X) → all (x ∷ xs) ≡ one x ++ all xs
 next_of : {X : Type 0} (one : X → List Judged) (all : List X → List Judged) → Each one all → (xs : List X) (i : ℕ) (x : X) → i < length xs → x ≡ get_or xs i x → all (drop i xs) ≡ one x ++ all (drop (i + 1) xs)
 next_of one all each xs i x h e = at_drop_more all xs i x h ∙ each (get_or xs i x) (drop (i + 1) xs) ∙ ap (λ y. one y ++ all (drop (i + 1) xs)) (sym e)
 
-pub loop_on : {X : Type 0} (one : X → List Judged) (all : List X → List Judged) → Each one all → (xs : List X) (i : ℕ) (x : X) → i < length xs → x ≡ get_or xs i x → (a b : Found) (g : Result Found (Cause × ℕ)) → gathered a (one x) ≡ Ok b → gathered a (all (drop i xs)) ≡ g → gathered b (all (drop (i + 1) xs)) ≡ g
+pub loop_on : {X : Type 0} (one : X → List Judged) (all : List X → List Judged) → Each one all → (xs : List X) (i : ℕ) (x : X) → i < length xs → x ≡ get_or xs i x → (a b : Found) (g : Result Found (Cause × ℕ)) → so_far a (one x) ≡ Ok b → so_far a (all (drop i xs)) ≡ g → so_far b (all (drop (i + 1) xs)) ≡ g
 loop_on one all each xs i x h e a b g ok inv =
     let rest = all (drop (i + 1) xs) in
-    sym (ap (λ r. then r rest) ok) ∙ sym (gathered_append a (one x) rest) ∙ sym (ap (gathered a) (next_of one all each xs i x h e)) ∙ inv
+    sym (ap (λ r. then r rest) ok) ∙ sym (so_far_append a (one x) rest) ∙ sym (ap (so_far a) (next_of one all each xs i x h e)) ∙ inv
 
-pub loop_exit : {X : Type 0} (one : X → List Judged) (all : List X → List Judged) → Each one all → (xs : List X) (i : ℕ) (x : X) → i < length xs → x ≡ get_or xs i x → (s a b c : Found) (f : NameFault) (r : Result (Unit {0}) NameFault) → (y : NameFault) × (r ≡ Err y) × (y ≡ f) → Judges a (one x) (Err f) b → gathered a (all (drop i xs)) ≡ gathered s (all xs) → Judges s (all xs) r c
+pub loop_exit : {X : Type 0} (one : X → List Judged) (all : List X → List Judged) → Each one all → (xs : List X) (i : ℕ) (x : X) → i < length xs → x ≡ get_or xs i x → (s a b c : Found) (f : NameFault) (r : Result (Unit {0}) NameFault) → (y : NameFault) × (r ≡ Err y) × (y ≡ f) → Judges a (one x) (Err f) b → so_far a (all (drop i xs)) ≡ so_far s (all xs) → Judges s (all xs) r c
 loop_exit one all each xs i x h e s a b c f r p j inv =
     let rest = all (drop (i + 1) xs) in
     judges_exit s b c (all xs) f r (p.1 ∙ ap Err p.2) (by f (judges_as a b (all (drop i xs)) (one x ++ rest) (Err f) (next_of one all each xs i x h e) (judges_stop a b b (one x) rest f j)))
@@ -184,3 +184,24 @@ short_member env e b xs h = ap (λ (e : Expr). shorts env (view e)) h ∙ ap (sh
 
 pub short_chain : (env : Env) (k : ℕ) (e b : Expr) (ls : List (Sign × Expr)) → e ≡ ex.Chain k b ls → map (read env) (uses_prop (short_of (view e))) ≡ read env (0, []) ∷ []
 short_chain env k e b ls h = ap (λ (e : Expr). shorts env (view e)) h ∙ ap (shorts env) (view_chain k b ls) ∙ short_links env k (view b) (map linked ls)
+
+-- ---- the names of a whole list
+abbrev behind : Found → Result Found (Cause × ℕ) → Result Found (Cause × ℕ)
+behind found (Ok ns) = Ok (found ++ ns)
+behind found (Err f) = Err f
+
+so_far_is : (found : Found) (js : List Judged) → so_far found js ≡ behind found (gathered js)
+so_far_is found [] = ap Ok (sym (append-nil found))
+so_far_is found (Ok n ∷ js) = so_far_is (found ++ n ∷ []) js ∙ by (gathered js)
+  where
+    by : (r : Result Found (Cause × ℕ)) → behind (found ++ n ∷ []) r ≡ behind found (onto (Ok n) r)
+    by (Ok ns) = ap Ok (append_assoc found (n ∷ []) ns)
+    by (Err f) = refl
+so_far_is found (Err f ∷ js) = refl
+
+pub from_nothing : (js : List Judged) → so_far [] js ≡ gathered js
+from_nothing js = so_far_is [] js ∙ by (gathered js)
+  where
+    by : (r : Result Found (Cause × ℕ)) → behind [] r ≡ r
+    by (Ok ns) = refl
+    by (Err f) = refl

@@ -1,8 +1,10 @@
 -- What a step over names has to answer: the names so far and its own, with their declarations, or the first fault.
-use Rattle.std.specs.Prelude.{◌≡◌, ℕ, Bool, true, false, List, [], ◌∷◌, ◌++◌, map, Result, Ok, Err}
+use Rattle.std.specs.Prelude.{◌≡◌, ℕ, Bool, true, false, List, [], ◌∷◌, ◌++◌, map, Option, Some, None, Result, Ok, Err}
+use Rattle.script_names.specs.declared.Cause.{Cause}
 use Rattle.script_names.specs.Environments.{Env}
-use Rattle.script_names.specs.Names.{Judged, reads, read, uses_prop, uses_suffix, gathered}
+use Rattle.script_names.specs.Names.{Judged, reads, read, uses_prop, uses_suffix}
 use Rattle.script_text.specs.declared.sign.Sign.{Sign}
+use Rattle.script_grammar.specs.Trees.{Item, Const, Let, LetBe, Plain}
 use Rattle.script_tree.specs.declared.Expr.{Expr}
 use Rattle.script_tree.specs.declared.Label.{Label}
 use Rattle.script_tree.specs.declared.Access.{Access}
@@ -14,9 +16,15 @@ use Rattle.js_names.specs.declared.fault.NameFault.TheVariants as fault
 abbrev pub Found : Type 0
 Found = List (ℕ × ℕ)
 
+-- these names and those that follow, or the first fault
+abbrev pub so_far : Found → List Judged → Result Found (Cause × ℕ)
+so_far found [] = Ok found
+so_far found (Ok n ∷ js) = so_far (found ++ n ∷ []) js
+so_far found (Err f ∷ js) = Err f
+
 abbrev pub Judges : Found → List Judged → Result (Unit {0}) NameFault → Found → Type 0
-Judges before js (Ok u) now = gathered before js ≡ Ok now
-Judges before js (Err (fault.Wrong c at)) now = gathered before js ≡ Err (c, at)
+Judges before js (Ok u) now = so_far before js ≡ Ok now
+Judges before js (Err (fault.Wrong c at)) now = so_far before js ≡ Err (c, at)
 Judges before js (Err fault.Memory) now = Unit {0}
 
 -- the names of lists, one item after the other
@@ -51,3 +59,19 @@ link_reads env l = reads env (view l.1)
 abbrev pub all_links : Env → List (Sign × Expr) → List Judged
 all_links env [] = []
 all_links env (l ∷ ls) = link_reads env l ++ all_links env ls
+
+abbrev pub value_reads : Env → Option Expr → List Judged
+value_reads env None = []
+value_reads env (Some e) = reads env (view e)
+
+-- ---- statements
+-- the name that an item declares
+abbrev pub declared_name : Item → Option (List ℕ)
+declared_name (Const at x e) = Some x
+declared_name (Let at x) = Some x
+declared_name (LetBe at x e) = Some x
+declared_name (Plain s) = None
+
+abbrev pub is_declaration : Item → Bool
+is_declaration (Plain s) = false
+is_declaration i = true

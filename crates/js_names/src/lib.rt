@@ -3,6 +3,7 @@
 
 mod fault;
 mod scopes;
+mod statements;
 mod uses;
 
 pub use fault::NameFault;

@@ -1,5 +1,6 @@
--- What names stand for at a place of a program, as the environments of ECMA-262 (section 9.1) have it: a scope binds
--- its names where it begins, and a binding is set where the declaration ends.
+-- What names stand for at a place of a program, as the Environment Records of ECMA-262 have it: a scope binds its names
+-- where it begins, and a binding is set where the declaration ends. Here this is judged in the text's order, before any
+-- run.
 use Rattle.std.specs.Prelude.{ℕ, if◌then◌else◌, List, [], ◌∷◌, Option, Some, None}
 use Rattle.std.specs.Str.{bytes_eq}
 pub use Rattle.script_names.specs.declared.Binding.{Binding}

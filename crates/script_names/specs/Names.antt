@@ -1,9 +1,11 @@
 -- What each name of a program is: the declaration that it belongs to, or what is wrong with it.
 --
 -- A use belongs to the innermost scope that declares its name: a block, or a reducer's parameters with the outer block
--- of its body. It has to stand behind the end of the declaration, also where an outer scope declares the same name. A
--- scope declares a name once, and a program has one reducer of a name. Words behind a dot and before a colon are no
--- names of variables.
+-- of its body. It has to stand behind the end of the declaration, also where an outer scope declares the same name, and
+-- else it is unknown, whether it reads or assigns. A scope declares a name once: the second is the fault, and a use
+-- between two belongs to the first. A constant is not assigned to; a parameter may be. A program has one reducer of a
+-- name, which is no name of a variable; nor are words behind a dot and before a colon. The first fault is the first in
+-- the text.
 use Rattle.std.specs.Prelude.{ℕ, ◌+◌, if◌then◌else◌, List, [], ◌∷◌, ◌++◌, map, Option, Some, None, option_map, Result, Ok, Err}
 use Rattle.std.specs.List.{list_any}
 use Rattle.std.specs.Str.{bytes_eq}
@@ -11,7 +13,7 @@ use Rattle.script_grammar.specs.Trees.{Ex, Literal, Var, Round, ListOf, Object, 
 pub use Rattle.script_names.specs.declared.Cause.{Cause}
 use Rattle.script_names.specs.declared.Cause.TheVariants.{UnknownName, Duplicate, ConstWrite}
 use Rattle.script_names.specs.declared.Binding.{Binding}
-use Rattle.script_names.specs.declared.Binding.TheVariants.{Variable, Constant}
+use Rattle.script_names.specs.declared.Binding.TheVariants.{Unset, Variable, Constant}
 use Rattle.script_names.specs.Environments.{Env, empty, bind, enter}
 
 -- a name in the text: the number of its token, and its bytes
@@ -88,7 +90,8 @@ writes env e = reads env e
 abbrev pub declare_as : ℕ → Option Binding → Judged
 declare_as at (Some (Variable d)) = Err (Duplicate, at)
 declare_as at (Some (Constant d)) = Err (Duplicate, at)
-declare_as at _ = Ok (at, at)
+declare_as at (Some Unset) = Ok (at, at)
+declare_as at None = Ok (at, at)
 
 -- a name that is declared: its scope has bound it, so it is set where the scope has declared it before
 abbrev pub declare : Env → Name → Judged
@@ -151,25 +154,27 @@ scope_of ps is = map (λ (n : Name). n.1) (parameters ps) ++ declares is
 abbrev pub judged_body : Params → Items → List Judged
 judged_body ps is = judged_params (enter (scope_of ps is) empty) (parameters ps) is
 
--- these names and those that follow, or the first fault
-abbrev pub gathered : List (ℕ × ℕ) → List Judged → Result (List (ℕ × ℕ)) (Cause × ℕ)
-gathered found [] = Ok found
-gathered found (Ok n ∷ js) = gathered (found ++ n ∷ []) js
-gathered found (Err f ∷ js) = Err f
-
-abbrev pub reducer_name : Reducer → List ℕ
-reducer_name (Function at x ps is) = x
-
--- The names of variables in a reducer. Its own name is none of them; before are the names of the reducers before it.
-abbrev pub names_in : List (List ℕ) → Reducer → Result (List (ℕ × ℕ)) (Cause × ℕ)
-names_in before (Function at x ps is) = if list_any (bytes_eq x) before then Err (Duplicate, at) else gathered [] (judged_body ps is)
-
--- ---- a program
 abbrev pub onto : {A E : Type 0} → Result A E → Result (List A) E → Result (List A) E
 onto (Ok a) (Ok more) = Ok (a ∷ more)
 onto (Ok a) (Err e) = Err e
 onto (Err e) more = Err e
 
+-- the names with their declarations, or the first fault
+abbrev pub gathered : List Judged → Result (List (ℕ × ℕ)) (Cause × ℕ)
+gathered [] = Ok []
+gathered (j ∷ js) = onto j (gathered js)
+
+abbrev pub reducer_name : Reducer → List ℕ
+reducer_name (Function at x ps is) = x
+
+-- a reducer's own name, which is no name of a variable; before are the names of the reducers before it
+abbrev pub judged_name : List (List ℕ) → Name → List Judged
+judged_name before n = if list_any (bytes_eq n.1) before then Err (Duplicate, n.0) ∷ [] else []
+
+abbrev pub names_in : List (List ℕ) → Reducer → Result (List (ℕ × ℕ)) (Cause × ℕ)
+names_in before (Function at x ps is) = gathered (judged_name before (at, x) ++ judged_body ps is)
+
+-- ---- a program
 abbrev pub names_behind : List (List ℕ) → Program → Result (List (List (ℕ × ℕ))) (Cause × ℕ)
 names_behind before NoReducers = Ok []
 names_behind before (ThenReducer r rs) = onto (names_in before r) (names_behind (reducer_name r ∷ before) rs)

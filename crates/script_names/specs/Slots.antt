@@ -1,5 +1,5 @@
--- Numbers for the variables of a reducer: its declarations in the text's order, from 0. Which names are right does not
--- depend on them.
+-- Numbers for the variables of a reducer: its declarations in the text's order, from 0; there are as many as
+-- declarations. Which names are right does not depend on them.
 use Rattle.std.specs.Prelude.{ℕ, ◌+◌, if◌then◌else◌, ◌==◌, List, [], ◌∷◌, map}
 
 -- the declarations among names, which belong to themselves

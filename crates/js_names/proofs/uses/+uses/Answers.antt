@@ -1,9 +1,9 @@
 use Rattle.std.proofs.Common.{◌≡◌, ◌++◌, Err, rules, arith, refl, ap, ◌∙◌, sym}
 use Rattle.std.proofs.lemmas.Result.{err_from_is_err_and}
 use Rattle.script_tree.specs.View.{view}
-use Rattle.script_names.specs.Names.{reads, gathered}
+use Rattle.script_names.specs.Names.{reads}
 use Rattle.js_names.specs.Scopes.{env_of}
-use Rattle.js_names.specs.Judging.{all_reads, prop_reads, all_props, access_reads, all_accesses, link_reads, all_links}
+use Rattle.js_names.specs.Judging.{so_far, all_reads, prop_reads, all_props, access_reads, all_accesses, link_reads, all_links}
 use Rattle.js_names.proofs.Reading.{judges_on, judges_stop, judges_as, not_empty, in_list, in_object, in_member, in_chain, in_choice, exit_stop, loop_on, loop_exit, one_index}
 use Rattle.js_names.proofs.uses.+uses.Goals as goal
 
@@ -121,7 +121,7 @@ pub members-loop-a-preserved : goal.members-loop-a-preserved
 members-loop-a-preserved t c =
     let env = env_of c.args.scopes.now in
     let one = one_index env c.a-item.result c.as_slice-index.result.now c.index-index-0.result (search rules) c.as_slice-index.ensures (omega arith) c.index-index-0.is in
-    loop_on (access_reads env) (all_accesses env) (λ x xs. refl) c.args.accesses.now c.loop-a.a-index c.a-item.result c.loop-a-test.true c.a-item.is c.loop-a.found.items c.expr.new.found.items _ (ap (gathered c.loop-a.found.items) one ∙ c.in_ok-expr.ensures) c.loop-a.invariant
+    loop_on (access_reads env) (all_accesses env) (λ x xs. refl) c.args.accesses.now c.loop-a.a-index c.a-item.result c.loop-a-test.true c.a-item.is c.loop-a.found.items c.expr.new.found.items _ (ap (so_far c.loop-a.found.items) one ∙ c.in_ok-expr.ensures) c.loop-a.invariant
 
 pub members-returns-in_err-expr : goal.members-returns-in_err-expr
 members-returns-in_err-expr t c =
