@@ -205,3 +205,10 @@ from_nothing js = so_far_is [] js ∙ by (gathered js)
     by : (r : Result Found (Cause × ℕ)) → behind [] r ≡ r
     by (Ok ns) = refl
     by (Err f) = refl
+
+pub judged_first : (a b : Found) (xs ys : List Judged) → so_far a xs ≡ Ok b → so_far a (xs ++ ys) ≡ so_far b ys
+judged_first a b xs ys e = so_far_append a xs ys ∙ ap (λ r. then r ys) e
+
+pub judges_moved : (a s b : Found) (xs ys : List Judged) (f : NameFault) → so_far a xs ≡ so_far s ys → Judges a xs (Err f) b → Judges s ys (Err f) b
+judges_moved a s b xs ys (fault.Wrong k at) e h = sym e ∙ h
+judges_moved a s b xs ys fault.Memory e h = tt

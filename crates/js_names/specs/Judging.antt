@@ -2,14 +2,15 @@
 use Rattle.std.specs.Prelude.{◌≡◌, ℕ, Bool, true, false, List, [], ◌∷◌, ◌++◌, map, Option, Some, None, Result, Ok, Err}
 use Rattle.script_names.specs.declared.Cause.{Cause}
 use Rattle.script_names.specs.Environments.{Env}
-use Rattle.script_names.specs.Names.{Judged, reads, read, uses_prop, uses_suffix}
+use Rattle.script_names.specs.Names.{Judged, judged_item, after, reads, read, uses_prop, uses_suffix}
 use Rattle.script_text.specs.declared.sign.Sign.{Sign}
 use Rattle.script_grammar.specs.Trees.{Item, Const, Let, LetBe, Plain}
 use Rattle.script_tree.specs.declared.Expr.{Expr}
+use Rattle.script_tree.specs.declared.Stmt.{Stmt}
 use Rattle.script_tree.specs.declared.Label.{Label}
 use Rattle.script_tree.specs.declared.Access.{Access}
 use Rattle.script_tree.specs.declared.Access.TheVariants as access
-use Rattle.script_tree.specs.View.{view, prop_of, suffix_of, index_of}
+use Rattle.script_tree.specs.View.{view, item_view, prop_of, suffix_of, index_of}
 use Rattle.js_names.specs.declared.fault.NameFault.{NameFault}
 use Rattle.js_names.specs.declared.fault.NameFault.TheVariants as fault
 
@@ -72,6 +73,6 @@ declared_name (Let at x) = Some x
 declared_name (LetBe at x e) = Some x
 declared_name (Plain s) = None
 
-abbrev pub is_declaration : Item → Bool
-is_declaration (Plain s) = false
-is_declaration i = true
+abbrev pub all_judged : Env → List Stmt → List Judged
+all_judged env [] = []
+all_judged env (s ∷ ss) = judged_item env (item_view s) ++ all_judged (after env (item_view s)) ss

@@ -1,6 +1,6 @@
 //! What names stand for while a program is gone through.
 
-ghost use Rattle.std.specs.Prelude.{◌≡◌, ◌≤◌, vec_len};
+ghost use Rattle.std.specs.Prelude.{◌≡◌, ◌≤◌, length};
 
 use script_names::Binding;
 use std::alloc::{AllocError, Global};
@@ -65,14 +65,14 @@ impl<'a> Scopes<'a> {
 
     /// Where a scope begins, to be handed to `leave` where it ends.
     pub(crate) fn mark(&self) -> usize
-        ensures { result ≡ vec_len self.now.trail }
+        ensures { result ≡ length self.now.trail.items }
     {
         self.trail.len()
     }
 
     /// Where a scope ends that began at this mark: each name stands for what it stood for there.
     pub(crate) fn leave(&mut self, mark: usize) -> Result<(), AllocError>
-        requires { mark ≤ vec_len self.old.trail }
+        requires { mark ≤ length self.old.trail.items }
         ensures env { OnOk result (env_of self.new ≡ back (drop mark self.old.trail.items) (env_of self.old)) }
         ensures trail { OnOk result (self.new.trail.items ≡ take mark self.old.trail.items) }
     {

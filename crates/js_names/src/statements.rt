@@ -1,12 +1,12 @@
 //! The names of statements and declarations.
 
-ghost use Rattle.std.specs.Prelude.{◌≡◌, [], ◌∷◌, OnOk, option_map, map};
-ghost use Rattle.script_tree.specs.View.{view, item_view, items_of};
+ghost use Rattle.std.specs.Prelude.{◌≡◌, [], ◌∷◌, ◌++◌, OnOk, option_map, map};
+ghost use Rattle.script_tree.specs.View.{view, item_view, items_of, inner_of};
 ghost use Rattle.script_names.specs.declared.Binding.TheVariants.{Variable, Constant};
 ghost use Rattle.script_names.specs.Environments.{empty, bind, enter};
-ghost use Rattle.script_names.specs.Names.{reads, writes, write_as, declare, declares};
+ghost use Rattle.script_names.specs.Names.{reads, writes, write_as, read, declare, declares, after, judged, judged_item};
 ghost use Rattle.js_names.specs.Scopes.{env_of, Adds};
-ghost use Rattle.js_names.specs.Judging.{Judges, value_reads, declared_name};
+ghost use Rattle.js_names.specs.Judging.{Judges, value_reads, declared_name, all_judged};
 
 use crate::fault::NameFault;
 use crate::scopes::Scopes;
@@ -151,6 +151,90 @@ impl<'a> Pass<'a> {
             self.scopes.bind(name, Binding::Unset)?;
         }
         Ok(())
+    }
+
+    /// The items of a block, one after the other.
+    #[cycle(items)]
+    pub(crate) fn items(&mut self, items: &'a [Stmt]) -> Result<(), NameFault>
+        ensures judges { Judges self.old.found.items (all_judged (env_of self.old.scopes) items.now) result self.new.found.items }
+        ensures adds { OnOk result (Adds self.old.scopes self.new.scopes) }
+    {
+        for s in items {
+            self.item(s)?;
+        }
+        Ok(())
+    }
+
+    /// A block, whose names stand for something else within.
+    #[cycle(items)]
+    fn block(&mut self, items: &'a [Stmt]) -> Result<(), NameFault>
+        ensures judges { Judges self.old.found.items (all_judged (enter (declares (items_of (map item_view items.now))) (env_of self.old.scopes)) items.now) result self.new.found.items }
+        ensures env { OnOk result (env_of self.new.scopes ≡ env_of self.old.scopes) }
+        ensures adds { OnOk result (Adds self.old.scopes self.new.scopes) }
+    {
+        let mark = self.scopes.mark();
+        self.enter(items)?;
+        self.items(items)?;
+        self.scopes.leave(mark)?;
+        Ok(())
+    }
+
+    /// An item of a block. A declaration binds its name from its end on.
+    #[cycle(items)]
+    fn item(&mut self, s: &'a Stmt) -> Result<(), NameFault>
+        ensures judges { Judges self.old.found.items (judged_item (env_of self.old.scopes) (item_view s.now)) result self.new.found.items }
+        ensures env { OnOk result (env_of self.new.scopes ≡ after (env_of self.old.scopes) (item_view s.now)) }
+        ensures adds { OnOk result (Adds self.old.scopes self.new.scopes) }
+    {
+        match s {
+            Stmt::Const(name, e) => self.constant(name, e),
+            Stmt::Let(name, e) => self.variable(name, e),
+            Stmt::Block(items) => self.block(items.as_slice()),
+            Stmt::Empty => Ok(()),
+            Stmt::If(test, then, other) => {
+                self.expr(test)?;
+                self.inner(then.get())?;
+                match other {
+                    Some(other) => self.inner(other.get()),
+                    None => Ok(()),
+                }
+            }
+            Stmt::Return(e) => self.value(e),
+            Stmt::Throw(e, _) => self.expr(e),
+            Stmt::Delete(e) => self.expr(e),
+            Stmt::Set(t, e) => self.assignment(t, e),
+            Stmt::Do(e) => self.expr(e),
+        }
+    }
+
+    /// A statement in a statement, which is no declaration.
+    #[cycle(items)]
+    fn inner(&mut self, s: &'a Stmt) -> Result<(), NameFault>
+        ensures judges { Judges self.old.found.items (judged (env_of self.old.scopes) (inner_of (item_view s.now))) result self.new.found.items }
+        ensures env { OnOk result (env_of self.new.scopes ≡ env_of self.old.scopes) }
+        ensures adds { OnOk result (Adds self.old.scopes self.new.scopes) }
+    {
+        if declared_name(s).is_some() {
+            return self.nothing();
+        }
+        self.item(s)
+    }
+
+    /// What is assigned to, and the value.
+    fn assignment(&mut self, t: &Expr, e: &Expr) -> Result<(), NameFault>
+        ensures judges { Judges self.old.found.items (writes (env_of self.old.scopes) (view t.now) ++ reads (env_of self.old.scopes) (view e.now)) result self.new.found.items }
+        ensures scopes { self.new.scopes ≡ self.old.scopes }
+    {
+        self.target(t)?;
+        self.expr(e)
+    }
+
+    /// A tree that no program has stands for a name of no bytes.
+    fn nothing(&mut self) -> Result<(), NameFault>
+        ensures judges { Judges self.old.found.items (read (env_of self.old.scopes) (0, []) ∷ []) result self.new.found.items }
+        ensures scopes { self.new.scopes ≡ self.old.scopes }
+    {
+        uses::nothing(&self.scopes, &mut self.found)
     }
 }
 

@@ -38,7 +38,7 @@ fn read_at(
 }
 
 /// A tree that no program has stands for a name of no bytes.
-fn nothing(scopes: &Scopes<'_>, found: &mut Vec<(usize, usize)>) -> Result<(), NameFault>
+pub(crate) fn nothing(scopes: &Scopes<'_>, found: &mut Vec<(usize, usize)>) -> Result<(), NameFault>
     ensures { Judges found.old.items (judged_read (env_of scopes.now) (0, []) ∷ []) result found.new.items }
 {
     read_at(scopes, found, 0, &[])

@@ -19,7 +19,7 @@ returns-else-is_empty-clause-judges c =
 pub returns-else-is_empty-2-clause-judges : goal.returns-else-is_empty-2-clause-judges
 returns-else-is_empty-2-clause-judges c =
     let env = env_of c.args.self.now.scopes in
-    judges_as c.args.self.now.found.items c.expr-else-is_empty-2.new.self.found.items (writes env (view c.args.t.now)) (reads env (view c.args.t.now)) c.expr-else-is_empty-2.result (written env (view c.args.t.now) (chain_var c.args.t.now c.in-Chain.field-1 c.in-Chain.field-0 c.in-Chain.links c.in-Chain.is (not_empty c.in-Chain.links c.is_empty-in-Chain.result c.is_empty-in-Chain.ensures c.if-is_empty-2.false))) c.expr-else-is_empty-2.ensures.judges
+    judges_as c.args.self.now.found.items c.expr-in-Chain.new.self.found.items (writes env (view c.args.t.now)) (reads env (view c.args.t.now)) c.expr-in-Chain.result (written env (view c.args.t.now) (chain_var c.args.t.now c.in-Chain.field-1 c.in-Chain.field-0 c.in-Chain.links c.in-Chain.is (not_empty c.in-Chain.links c.is_empty-in-Chain.result c.is_empty-in-Chain.ensures c.if-is_empty-2.false))) c.expr-in-Chain.ensures.judges
 
 pub returns-in-Round-clause-judges : goal.returns-in-Round-clause-judges
 returns-in-Round-clause-judges c =
