@@ -99,7 +99,7 @@ left_adds s m t k a e h g =
     record { more = []; grown = g ∙ front ∙ sym (append-nil s.trail.items); undone = left s m t k a e h }
 
 -- ---- statements by their variants
-items_are : (env : Env) (xs : List Stmt) → judged_items env (items_of (map item_view xs)) ≡ all_judged env xs
+pub items_are : (env : Env) (xs : List Stmt) → judged_items env (items_of (map item_view xs)) ≡ all_judged env xs
 items_are env [] = refl
 items_are env (x ∷ xs) = ap (λ js. judged_item env (item_view x) ++ js) (items_are (after env (item_view x)) xs)
 

@@ -1,3 +1,5 @@
-pub mod Reading
 pub mod Going
+pub mod Keys
+pub mod Reading
 pub mod Trail
+pub mod Whole

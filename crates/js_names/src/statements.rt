@@ -13,6 +13,7 @@ use crate::scopes::Scopes;
 use crate::uses;
 use script_names::{Binding, Cause};
 use script_tree::{Expr, Name, Stmt};
+use sqlite_items::Items;
 use std::alloc::{AllocError, Global};
 
 /// How far a reducer was gone through.
@@ -32,6 +33,14 @@ impl<'a> Pass<'a> {
             scopes: Scopes::new(alloc),
             found: Vec::new(alloc),
         }
+    }
+
+    /// The names that were found.
+    pub(crate) fn into_found(self) -> Items<(usize, usize)>
+        ensures { result ≡ self.entry.found.items }
+    {
+        let Pass { scopes: _, found } = self;
+        Items::from_vec(found)
     }
 
     /// The names of an expression that is read.
