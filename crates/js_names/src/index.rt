@@ -31,7 +31,12 @@ impl Index {
     }
 
     /// A reducer of this name and number.
-    pub(crate) fn add(&mut self, alloc: Global, name: &[u8], number: usize) -> Result<(), AllocError>
+    pub(crate) fn add(
+        &mut self,
+        alloc: Global,
+        name: &[u8],
+        number: usize,
+    ) -> Result<(), AllocError>
         ensures { OnOk result ((x : List ℕ) → number_in self.new x ≡ (if bytes_eq name.now x then Some number else number_in self.old x)) }
     {
         self.numbers.insert(Vec::from_slice(alloc, name)?, number)?;

@@ -33,7 +33,8 @@ impl<'a> Pass<'a> {
         ensures env { OnOk result (env_of self.new.scopes ≡ enter (scope_of (params_of reducer.now.state reducer.now.action) (items_of (map item_view reducer.now.body))) (env_of self.old.scopes)) }
         ensures found { OnOk result (self.new.found ≡ self.old.found) }
     {
-        self.scopes.bind(reducer.state.text.as_slice(), Binding::Unset)?;
+        self.scopes
+            .bind(reducer.state.text.as_slice(), Binding::Unset)?;
         self.open_action(&reducer.action)?;
         self.enter(reducer.body.as_slice())
     }
@@ -73,7 +74,11 @@ fn body(alloc: Global, reducer: &Reducer) -> Result<Items<(usize, usize)>, NameF
 }
 
 /// The names of variables in a reducer, where the index has the reducers before it.
-fn names_in(alloc: Global, index: &Index, reducer: &Reducer) -> Result<Items<(usize, usize)>, NameFault>
+fn names_in(
+    alloc: Global,
+    index: &Index,
+    reducer: &Reducer,
+) -> Result<Items<(usize, usize)>, NameFault>
     ensures { (before : List (List ℕ)) → Has index.now before → Gives (names_in before (reducer_of reducer.now)) result }
 {
     if index.find(reducer.name.text.as_slice()).is_some() {

@@ -131,7 +131,8 @@ impl<'a> Pass<'a> {
     {
         self.declare(name)?;
         self.expr(e)?;
-        self.scopes.bind(name.text.as_slice(), Binding::Constant(name.at))?;
+        self.scopes
+            .bind(name.text.as_slice(), Binding::Constant(name.at))?;
         Ok(())
     }
 
@@ -143,7 +144,8 @@ impl<'a> Pass<'a> {
     {
         self.declare(name)?;
         self.value(e)?;
-        self.scopes.bind(name.text.as_slice(), Binding::Variable(name.at))?;
+        self.scopes
+            .bind(name.text.as_slice(), Binding::Variable(name.at))?;
         Ok(())
     }
 

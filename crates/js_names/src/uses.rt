@@ -88,7 +88,11 @@ pub(crate) fn expr(
 }
 
 #[cycle(uses)]
-fn exprs(scopes: &Scopes<'_>, found: &mut Vec<(usize, usize)>, items: &[Expr]) -> Result<(), NameFault>
+fn exprs(
+    scopes: &Scopes<'_>,
+    found: &mut Vec<(usize, usize)>,
+    items: &[Expr],
+) -> Result<(), NameFault>
     ensures { Judges found.old.items (all_reads (env_of scopes.now) items.now) result found.new.items }
 {
     for e in items {
@@ -98,7 +102,11 @@ fn exprs(scopes: &Scopes<'_>, found: &mut Vec<(usize, usize)>, items: &[Expr]) -
 }
 
 #[cycle(uses)]
-fn props(scopes: &Scopes<'_>, found: &mut Vec<(usize, usize)>, items: &[(Label, Expr)]) -> Result<(), NameFault>
+fn props(
+    scopes: &Scopes<'_>,
+    found: &mut Vec<(usize, usize)>,
+    items: &[(Label, Expr)],
+) -> Result<(), NameFault>
     ensures { Judges found.old.items (all_props (env_of scopes.now) items.now) result found.new.items }
 {
     for p in items {
@@ -177,7 +185,6 @@ fn operands(
     }
     Ok(())
 }
-
 
 fn is_index(access: &Access) -> bool
     ensures { result ≡ is_index access.now }

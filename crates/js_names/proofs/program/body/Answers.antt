@@ -1,4 +1,4 @@
-use Rattle.std.proofs.Common.{ℕ, Vec, Global, [], ◌∷◌, ◌++◌, map, Ok, Err, refl, sym, ap, subst, ◌∙◌}
+use Rattle.std.proofs.Common.{ℕ, Vec, Global, [], ◌++◌, map, Ok, Err, sym, ap, ◌∙◌}
 use Rattle.std.proofs.lemmas.Result.{err_from_is_err_and}
 use Rattle.script_tree.specs.View.{item_view, items_of, params_of}
 use Rattle.script_names.specs.Environments.{enter}

@@ -1,10 +1,10 @@
-use Rattle.std.proofs.Common.{◌≡◌, ◌++◌, Err, rules, arith, refl, ap, ◌∙◌, sym}
+use Rattle.std.proofs.Common.{◌++◌, Err, rules, arith, refl, ap, ◌∙◌, sym}
 use Rattle.std.proofs.lemmas.Result.{err_from_is_err_and}
 use Rattle.script_tree.specs.View.{view}
 use Rattle.script_names.specs.Names.{reads}
 use Rattle.js_names.specs.Scopes.{env_of}
 use Rattle.js_names.specs.Judging.{so_far, all_reads, prop_reads, all_props, access_reads, all_accesses, link_reads, all_links}
-use Rattle.js_names.proofs.Reading.{judges_on, judges_stop, judges_as, not_empty, in_list, in_object, in_member, in_chain, in_choice, exit_stop, loop_on, loop_exit, one_index}
+use Rattle.js_names.proofs.Reading.{judges_on, judges_as, not_empty, in_list, in_object, in_member, in_chain, in_choice, exit_stop, loop_on, loop_exit, one_index}
 use Rattle.js_names.proofs.uses.+uses.Goals as goal
 
 pub expr-returns-in-List : goal.expr-returns-in-List

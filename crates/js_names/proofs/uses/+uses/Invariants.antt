@@ -1,4 +1,4 @@
-use Rattle.std.proofs.Common.{◌≡◌, ◌++◌, drop}
+use Rattle.std.proofs.Common.{◌≡◌, drop}
 use Rattle.js_names.specs.Scopes.{env_of}
 use Rattle.js_names.specs.Judging.{so_far, all_reads, all_props, all_accesses, all_links}
 use Rattle.js_names.proofs.uses.+uses.Given as goal

@@ -13,10 +13,10 @@ undo-preserved c =
     let t : Entry = (c.in-Some.name, c.in-Some.old) in
     let grown : length ts ≡ length c.pop.new.self.items + 1 = ap length c.in-Some.ensures.items ∙ length_push c.pop.new.self.items t in
     let kept : length c.put.new.self.trail.items ≡ length c.pop.new.self.items = ap length p.trail in record {
-  env = undo_one n ts c.pop.new.self.items c.put.new.self.trail.items t (env_of c.undo.self) (env_of c.put.new.self) c.in-Some.ensures.items p.trail more p.bound ∙ c.undo.invariant.env;
-  trail = keep_one n ts c.pop.new.self.items c.put.new.self.trail.items t c.in-Some.ensures.items p.trail more ∙ c.undo.invariant.trail;
-  room = omega (arith, grown, kept, more);
-}
+      env = undo_one n ts c.pop.new.self.items c.put.new.self.trail.items t (env_of c.undo.self) (env_of c.put.new.self) c.in-Some.ensures.items p.trail more p.bound ∙ c.undo.invariant.env;
+      trail = keep_one n ts c.pop.new.self.items c.put.new.self.trail.items t c.in-Some.ensures.items p.trail more ∙ c.undo.invariant.trail;
+      room = omega (arith, grown, kept, more);
+    }
 
 pub returns-after-undo-clause-env : goal.returns-after-undo-clause-env
 returns-after-undo-clause-env c =

@@ -1,4 +1,4 @@
-use Rattle.std.proofs.Common.{◌≡◌, [], ◌∷◌, ◌++◌, None, Some, Ok, Err, refl, sym, ap, subst, ◌∙◌}
+use Rattle.std.proofs.Common.{[], ◌∷◌, ◌++◌, Ok, Err, refl, sym, ap, subst, ◌∙◌}
 use Rattle.std.proofs.lemmas.Result.{err_from_is_err_and, on_ok_weaker}
 use Rattle.script_tree.specs.View.{view, item_view}
 use Rattle.script_names.specs.Environments.{enter}
@@ -17,9 +17,9 @@ items-loop-s-preserved t c =
     let inv = c.loop-s.invariant in
     let old = c.loop-s.self in
     let new = c.item.new.self in record {
-  judges = items_on c.args.items.now c.loop-s.s-index c.s-item.result c.loop-s-test.true c.s-item.is (env_of old.scopes) (env_of new.scopes) c.in_ok-item.ensures.env old.found.items new.found.items _ c.in_ok-item.ensures.judges inv.judges;
-  adds = adds_on c.args.self.now.scopes old.scopes new.scopes inv.adds c.in_ok-item.ensures.adds;
-}
+      judges = items_on c.args.items.now c.loop-s.s-index c.s-item.result c.loop-s-test.true c.s-item.is (env_of old.scopes) (env_of new.scopes) c.in_ok-item.ensures.env old.found.items new.found.items _ c.in_ok-item.ensures.judges inv.judges;
+      adds = adds_on c.args.self.now.scopes old.scopes new.scopes inv.adds c.in_ok-item.ensures.adds;
+    }
 
 pub items-returns-in_err-item-clause-judges : goal.items-returns-in_err-item-clause-judges
 items-returns-in_err-item-clause-judges t c =

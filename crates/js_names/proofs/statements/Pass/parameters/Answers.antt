@@ -1,4 +1,4 @@
-use Rattle.std.proofs.Common.{[], ◌∷◌, ◌++◌, Some, sym, ap, ◌∙◌}
+use Rattle.std.proofs.Common.{[], ◌∷◌, ◌++◌, sym, ap}
 use Rattle.script_names.specs.Names.{declare}
 use Rattle.script_names.specs.declared.Binding.TheVariants.{Variable}
 use Rattle.script_names.specs.Environments.{bind}
