@@ -1,5 +1,5 @@
 -- The names of statements.
-use Rattle.std.proofs.Common.{◌≡◌, ◌≢◌, ℕ, ◌+◌, ◌<◌, length, drop, take, get_or, Bool, true, false, List, [], ◌∷◌, ◌++◌, map, Option, Some, None, Result, Ok, Err, refl, sym, ap, ◌∙◌, append_assoc}
+use Rattle.std.proofs.Common.{◌≡◌, ℕ, ◌+◌, ◌<◌, length, drop, take, get_or, Bool, true, false, List, [], ◌∷◌, ◌++◌, map, Option, Some, None, Result, Ok, Err, refl, sym, ap, ◌∙◌, append_assoc}
 use Rattle.std.proofs.lemmas.List.{at_drop_more, append-nil}
 use Rattle.std.proofs.Math.Seq.{drop-append_seam, take-append_seam}
 use Rattle.script_grammar.specs.Trees.{Ex, Var, Item, Const, Let, LetBe, Plain}
@@ -42,13 +42,13 @@ unary_var e i s h = ap (λ (e : Expr). is_var (view e)) h ∙ ap is_var (view_un
 pub choice_var : (e c a b : Expr) → e ≡ ex.Choice c a b → is_var (view e) ≡ false
 choice_var e c a b h = ap (λ (e : Expr). is_var (view e)) h ∙ ap is_var (view_choice c a b)
 
-pub member_var : (e b : Expr) (xs : List (Access × List Expr)) → e ≡ ex.Member b xs → xs ≢ [] → is_var (view e) ≡ false
-member_var e b [] h n = absurd (n refl)
-member_var e b (x ∷ xs) h n = ap (λ (e : Expr). is_var (view e)) h ∙ ap is_var (view_member b (x ∷ xs))
+pub member_var : (e b : Expr) (xs : List (Access × List Expr)) → e ≡ ex.Member b xs → is_var (view e) ≡ false
+member_var e b [] h = ap (λ (e : Expr). is_var (view e)) h ∙ ap is_var (view_member b [])
+member_var e b (x ∷ xs) h = ap (λ (e : Expr). is_var (view e)) h ∙ ap is_var (view_member b (x ∷ xs))
 
-pub chain_var : (e b : Expr) (k : ℕ) (ls : List (Sign × Expr)) → e ≡ ex.Chain k b ls → ls ≢ [] → is_var (view e) ≡ false
-chain_var e b k [] h n = absurd (n refl)
-chain_var e b k (l ∷ ls) h n = ap (λ (e : Expr). is_var (view e)) h ∙ ap is_var (view_chain k b (l ∷ ls))
+pub chain_var : (e b : Expr) (k : ℕ) (ls : List (Sign × Expr)) → e ≡ ex.Chain k b ls → is_var (view e) ≡ false
+chain_var e b k [] h = ap (λ (e : Expr). is_var (view e)) h ∙ ap is_var (view_chain k b [])
+chain_var e b k (l ∷ ls) h = ap (λ (e : Expr). is_var (view e)) h ∙ ap is_var (view_chain k b (l ∷ ls))
 
 pub written_name : (env : Env) (e : Expr) (n : Name) (x : List ℕ) → e ≡ ex.Name n → x ≡ n.text → writes env (view e) ≡ write_as n.at (env x) ∷ []
 written_name env e n x h i = ap (λ (e : Expr). writes env (view e)) h ∙ ap (writes env) (view_name n) ∙ sym (ap (λ x. write_as n.at (env x) ∷ []) i)

@@ -81,19 +81,13 @@ reads_list env es c = ap (reads env) (view_list es c) ∙ elems env es c
 pub reads_object : (env : Env) (ps : List (Label × Expr)) (c : Bool) → reads env (view (ex.Object ps c)) ≡ all_props env ps
 reads_object env ps c = ap (reads env) (view_object ps c) ∙ properties env ps c
 
-pub reads_member : (env : Env) (e : Expr) (xs : List (Access × List Expr)) → xs ≢ [] → reads env (view (ex.Member e xs)) ≡ reads env (view e) ++ all_accesses env xs
-reads_member env e [] h = absurd (h refl)
-reads_member env e (x ∷ xs) h = ap (reads env) (view_member e (x ∷ xs)) ∙ map_reads env (uses (view e)) (uses_suffixes (suffixes_of (map reached (x ∷ xs)))) ∙ ap (λ (js : List Judged). reads env (view e) ++ js) (accesses env (x ∷ xs))
-
-pub reads_no_member : (env : Env) (e : Expr) (xs : List (Access × List Expr)) → xs ≡ [] → reads env (view (ex.Member e xs)) ≡ read env (0, []) ∷ []
-reads_no_member env e xs h = rw h (ap (reads env) (view_member e []))
+pub reads_member : (env : Env) (e : Expr) (xs : List (Access × List Expr)) → reads env (view (ex.Member e xs)) ≡ reads env (view e) ++ all_accesses env xs
+reads_member env e [] = ap (reads env) (view_member e []) ∙ map_reads env (uses (view e)) []
+reads_member env e (x ∷ xs) = ap (reads env) (view_member e (x ∷ xs)) ∙ map_reads env (uses (view e)) (uses_suffixes (suffixes_of (map reached (x ∷ xs)))) ∙ ap (λ (js : List Judged). reads env (view e) ++ js) (accesses env (x ∷ xs))
 
 pub reads_chain : (env : Env) (k : ℕ) (e : Expr) (ls : List (Sign × Expr)) → ls ≢ [] → reads env (view (ex.Chain k e ls)) ≡ reads env (view e) ++ all_links env ls
 reads_chain env k e [] h = absurd (h refl)
 reads_chain env k e (l ∷ ls) h = ap (reads env) (view_chain k e (l ∷ ls)) ∙ map_reads env (uses (view e)) (uses_links (links_of (map linked (l ∷ ls)))) ∙ ap (λ (js : List Judged). reads env (view e) ++ js) (links env (l ∷ ls))
-
-pub reads_no_chain : (env : Env) (k : ℕ) (e : Expr) (ls : List (Sign × Expr)) → ls ≡ [] → reads env (view (ex.Chain k e ls)) ≡ read env (0, []) ∷ []
-reads_no_chain env k e ls h = rw h (ap (reads env) (view_chain k e []))
 
 pub reads_choice : (env : Env) (c a b : Expr) → reads env (view (ex.Choice c a b)) ≡ reads env (view c) ++ (reads env (view a) ++ reads env (view b))
 reads_choice env c a b = ap (reads env) (view_choice c a b) ∙ map_reads env (uses (view c)) (uses (view a) ++ uses (view b)) ∙ ap (λ (js : List Judged). reads env (view c) ++ js) (map_reads env (uses (view a)) (uses (view b)))
@@ -108,17 +102,32 @@ judges_exit a b c xs fault.Memory r e h = rw e tt
 pub not_empty : {A : Type 0} (xs : List A) (b : Bool) → (IsTrue b ↔ (xs ≡ [])) → b ≡ false → xs ≢ []
 not_empty xs b h e = λ n. cc (h.1 n)
 
+pub empty : {A : Type 0} (xs : List A) (b : Bool) → (IsTrue b ↔ (xs ≡ [])) → b ≡ true → xs ≡ []
+empty xs b h e = h.0 e
+
 pub in_list : (env : Env) (e : Expr) (es fs : List Expr) (c : Bool) → e ≡ ex.List es c → fs ≡ es → reads env (view e) ≡ all_reads env fs
 in_list env e es fs c h i = ap (λ (e : Expr). reads env (view e)) h ∙ reads_list env es c ∙ sym (ap (all_reads env) i)
 
 pub in_object : (env : Env) (e : Expr) (ps qs : List (Label × Expr)) (c : Bool) → e ≡ ex.Object ps c → qs ≡ ps → reads env (view e) ≡ all_props env qs
 in_object env e ps qs c h i = ap (λ (e : Expr). reads env (view e)) h ∙ reads_object env ps c ∙ sym (ap (all_props env) i)
 
-pub in_member : (env : Env) (e b d : Expr) (xs : List (Access × List Expr)) → e ≡ ex.Member b xs → xs ≢ [] → d ≡ b → reads env (view e) ≡ reads env (view d) ++ all_accesses env xs
-in_member env e b d xs h n i = ap (λ (e : Expr). reads env (view e)) h ∙ reads_member env b xs n ∙ sym (ap (λ (e : Expr). reads env (view e) ++ all_accesses env xs) i)
+pub in_member : (env : Env) (e b d : Expr) (xs : List (Access × List Expr)) → e ≡ ex.Member b xs → d ≡ b → reads env (view e) ≡ reads env (view d) ++ all_accesses env xs
+in_member env e b d xs h i = ap (λ (e : Expr). reads env (view e)) h ∙ reads_member env b xs ∙ sym (ap (λ (e : Expr). reads env (view e) ++ all_accesses env xs) i)
 
 pub in_chain : (env : Env) (k : ℕ) (e b d : Expr) (ls : List (Sign × Expr)) → e ≡ ex.Chain k b ls → ls ≢ [] → d ≡ b → reads env (view e) ≡ reads env (view d) ++ all_links env ls
 in_chain env k e b d ls h n i = ap (λ (e : Expr). reads env (view e)) h ∙ reads_chain env k b ls n ∙ sym (ap (λ (e : Expr). reads env (view e) ++ all_links env ls) i)
+
+-- the names behind the first operand: those of the operators' operands, and without an operator what no program has
+abbrev pub behind_first : Env → List (Sign × Expr) → List Judged
+behind_first env [] = read env (0, []) ∷ []
+behind_first env (l ∷ ls) = all_links env (l ∷ ls)
+
+pub in_some_chain : (env : Env) (k : ℕ) (e b d : Expr) (ls : List (Sign × Expr)) → e ≡ ex.Chain k b ls → d ≡ b → reads env (view e) ≡ reads env (view d) ++ behind_first env ls
+in_some_chain env k e b d [] h i = rw (h, i) (ap (reads env) (view_chain k b []) ∙ map_reads env (uses (view b)) ((0, []) ∷ []))
+in_some_chain env k e b d (l ∷ ls) h i = rw (h, i) (reads_chain env k b (l ∷ ls) (λ n. cc))
+
+pub in_no_chain : (env : Env) (k : ℕ) (e b d : Expr) (ls : List (Sign × Expr)) → e ≡ ex.Chain k b ls → ls ≡ [] → d ≡ b → reads env (view e) ≡ reads env (view d) ++ read env (0, []) ∷ []
+in_no_chain env k e b d ls h n i = in_some_chain env k e b d ls h i ∙ ap (λ ls. reads env (view d) ++ behind_first env ls) n
 
 pub in_choice : (env : Env) (e c a b c' a' b' : Expr) → e ≡ ex.Choice c a b → c' ≡ c → a' ≡ a → b' ≡ b → reads env (view e) ≡ reads env (view c') ++ (reads env (view a') ++ reads env (view b'))
 in_choice env e c a b c' a' b' h i j k = rw (h, i, j, k) (reads_choice env c a b)

@@ -97,18 +97,6 @@ impl<'a> Pass<'a> {
     {
         match t {
             Expr::Name(name) => self.write(name.at, name.text.as_slice()),
-            Expr::Member(_, accesses) => {
-                if accesses.is_empty() {
-                    return self.write(0, &[]);
-                }
-                self.expr(t)
-            }
-            Expr::Chain(_, _, links) => {
-                if links.is_empty() {
-                    return self.write(0, &[]);
-                }
-                self.expr(t)
-            }
             Expr::Number(_) => self.expr(t),
             Expr::Text(_) => self.expr(t),
             Expr::True => self.expr(t),
@@ -118,7 +106,9 @@ impl<'a> Pass<'a> {
             Expr::Round(_) => self.expr(t),
             Expr::List(_, _) => self.expr(t),
             Expr::Object(_, _) => self.expr(t),
+            Expr::Member(_, _) => self.expr(t),
             Expr::Unary(_, _) => self.expr(t),
+            Expr::Chain(_, _, _) => self.expr(t),
             Expr::Choice(_, _, _) => self.expr(t),
         }
     }

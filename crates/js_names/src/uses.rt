@@ -66,17 +66,14 @@ pub(crate) fn expr(
         Expr::List(items, _) => exprs(scopes, found, items.as_slice()),
         Expr::Object(items, _) => props(scopes, found, items.as_slice()),
         Expr::Member(base, accesses) => {
-            if accesses.is_empty() {
-                return nothing(scopes, found);
-            }
             expr(scopes, found, base.get())?;
             members(scopes, found, accesses.as_slice())
         }
         Expr::Chain(_, first, links) => {
+            expr(scopes, found, first.get())?;
             if links.is_empty() {
                 return nothing(scopes, found);
             }
-            expr(scopes, found, first.get())?;
             operands(scopes, found, links.as_slice())
         }
         Expr::Choice(test, then, other) => {

@@ -1,10 +1,10 @@
-use Rattle.std.proofs.Common.{◌++◌, Err, rules, arith, refl, ap, ◌∙◌, sym}
+use Rattle.std.proofs.Common.{[], ◌∷◌, ◌++◌, Err, rules, arith, refl, ap, ◌∙◌, sym}
 use Rattle.std.proofs.lemmas.Result.{err_from_is_err_and}
 use Rattle.script_tree.specs.View.{view}
-use Rattle.script_names.specs.Names.{reads}
+use Rattle.script_names.specs.Names.{reads, read}
 use Rattle.js_names.specs.Scopes.{env_of}
 use Rattle.js_names.specs.Judging.{so_far, all_reads, prop_reads, all_props, access_reads, all_accesses, link_reads, all_links}
-use Rattle.js_names.proofs.Reading.{judges_on, judges_as, not_empty, in_list, in_object, in_member, in_chain, in_choice, exit_stop, loop_on, loop_exit, one_index}
+use Rattle.js_names.proofs.Reading.{judges_on, judges_as, not_empty, empty, behind_first, in_some_chain, in_no_chain, in_list, in_object, in_member, in_chain, in_choice, exit_stop, loop_on, loop_exit, one_index}
 use Rattle.js_names.proofs.uses.+uses.Goals as goal
 
 pub expr-returns-in-List : goal.expr-returns-in-List
@@ -24,8 +24,7 @@ expr-returns-in_err-expr-in-Member t c =
     let b = c.expr-in-Member.new.found.items in
     let x = c.get-in-Member.result.now in
     let rest = all_accesses env c.in-Member.accesses in
-    let n = not_empty c.in-Member.accesses c.is_empty.result c.is_empty.ensures c.if-is_empty.false in
-    judges_as a b (reads env (view c.args.e.now)) (reads env (view x) ++ rest) c.from_residual.result (in_member env c.args.e.now c.in-Member.base x c.in-Member.accesses c.in-Member.is n c.get-in-Member.ensures) (exit_stop a b b (reads env (view x)) rest c.in_err-expr-in-Member.field-0.0 c.from_residual.result (err_from_is_err_and c.from_residual.result c.from_residual.ensures.1) c.in_err-expr-in-Member.ensures)
+    judges_as a b (reads env (view c.args.e.now)) (reads env (view x) ++ rest) c.from_residual.result (in_member env c.args.e.now c.in-Member.base x c.in-Member.accesses c.in-Member.is c.get-in-Member.ensures) (exit_stop a b b (reads env (view x)) rest c.in_err-expr-in-Member.field-0.0 c.from_residual.result (err_from_is_err_and c.from_residual.result c.from_residual.ensures.1) c.in_err-expr-in-Member.ensures)
 
 pub expr-returns-in_ok-expr-in-Member : goal.expr-returns-in_ok-expr-in-Member
 expr-returns-in_ok-expr-in-Member t c =
@@ -34,8 +33,7 @@ expr-returns-in_ok-expr-in-Member t c =
     let b = c.members.new.found.items in
     let x = c.get-in-Member.result.now in
     let rest = all_accesses env c.as_slice-in-Member.result.now in
-    let n = not_empty c.in-Member.accesses c.is_empty.result c.is_empty.ensures c.if-is_empty.false in
-    judges_as a b (reads env (view c.args.e.now)) (reads env (view x) ++ rest) c.members.result (in_member env c.args.e.now c.in-Member.base x c.in-Member.accesses c.in-Member.is n c.get-in-Member.ensures ∙ sym (ap (λ xs. reads env (view x) ++ all_accesses env xs) c.as_slice-in-Member.ensures)) (judges_on a c.expr-in-Member.new.found.items b (reads env (view x)) rest c.members.result c.in_ok-expr-in-Member.ensures c.members.ensures)
+    judges_as a b (reads env (view c.args.e.now)) (reads env (view x) ++ rest) c.members.result (in_member env c.args.e.now c.in-Member.base x c.in-Member.accesses c.in-Member.is c.get-in-Member.ensures ∙ sym (ap (λ xs. reads env (view x) ++ all_accesses env xs) c.as_slice-in-Member.ensures)) (judges_on a c.expr-in-Member.new.found.items b (reads env (view x)) rest c.members.result c.in_ok-expr-in-Member.ensures c.members.ensures)
 
 pub expr-returns-in_err-expr-in-Chain : goal.expr-returns-in_err-expr-in-Chain
 expr-returns-in_err-expr-in-Chain t c =
@@ -43,20 +41,32 @@ expr-returns-in_err-expr-in-Chain t c =
     let a = c.args.found.now.items in
     let b = c.expr-in-Chain.new.found.items in
     let x = c.get-in-Chain.result.now in
+    let i = c.in-Chain in
     let r = c.from_residual-in_err-expr-in-Chain in
-    let rest = all_links env c.in-Chain.links in
-    let n = not_empty c.in-Chain.links c.is_empty-in-Chain.result c.is_empty-in-Chain.ensures c.if-is_empty-2.false in
-    judges_as a b (reads env (view c.args.e.now)) (reads env (view x) ++ rest) r.result (in_chain env c.in-Chain.field-0 c.args.e.now c.in-Chain.first x c.in-Chain.links c.in-Chain.is n c.get-in-Chain.ensures) (exit_stop a b b (reads env (view x)) rest c.in_err-expr-in-Chain.field-0.0 r.result (err_from_is_err_and r.result r.ensures.1) c.in_err-expr-in-Chain.ensures)
+    let rest = behind_first env i.links in
+    judges_as a b (reads env (view c.args.e.now)) (reads env (view x) ++ rest) r.result (in_some_chain env i.field-0 c.args.e.now i.first x i.links i.is c.get-in-Chain.ensures) (exit_stop a b b (reads env (view x)) rest c.in_err-expr-in-Chain.field-0.0 r.result (err_from_is_err_and r.result r.ensures.1) c.in_err-expr-in-Chain.ensures)
 
-pub expr-returns-in_ok-expr-in-Chain : goal.expr-returns-in_ok-expr-in-Chain
-expr-returns-in_ok-expr-in-Chain t c =
+pub expr-returns-then-is_empty : goal.expr-returns-then-is_empty
+expr-returns-then-is_empty t c =
+    let env = env_of c.args.scopes.now in
+    let a = c.args.found.now.items in
+    let b = c.nothing.new.found.items in
+    let x = c.get-in-Chain.result.now in
+    let i = c.in-Chain in
+    let r = c.nothing.result in
+    let none = read env (0, []) ∷ [] in
+    judges_as a b (reads env (view c.args.e.now)) (reads env (view x) ++ none) r (in_no_chain env i.field-0 c.args.e.now i.first x i.links i.is (empty i.links c.is_empty.result c.is_empty.ensures c.if-is_empty.true) c.get-in-Chain.ensures) (judges_on a c.expr-in-Chain.new.found.items b (reads env (view x)) none r c.in_ok-expr-in-Chain.ensures c.nothing.ensures)
+
+pub expr-returns-else-is_empty : goal.expr-returns-else-is_empty
+expr-returns-else-is_empty t c =
     let env = env_of c.args.scopes.now in
     let a = c.args.found.now.items in
     let b = c.operands.new.found.items in
     let x = c.get-in-Chain.result.now in
+    let i = c.in-Chain in
     let rest = all_links env c.as_slice-in-Chain.result.now in
-    let n = not_empty c.in-Chain.links c.is_empty-in-Chain.result c.is_empty-in-Chain.ensures c.if-is_empty-2.false in
-    judges_as a b (reads env (view c.args.e.now)) (reads env (view x) ++ rest) c.operands.result (in_chain env c.in-Chain.field-0 c.args.e.now c.in-Chain.first x c.in-Chain.links c.in-Chain.is n c.get-in-Chain.ensures ∙ sym (ap (λ xs. reads env (view x) ++ all_links env xs) c.as_slice-in-Chain.ensures)) (judges_on a c.expr-in-Chain.new.found.items b (reads env (view x)) rest c.operands.result c.in_ok-expr-in-Chain.ensures c.operands.ensures)
+    let n = not_empty i.links c.is_empty.result c.is_empty.ensures c.if-is_empty.false in
+    judges_as a b (reads env (view c.args.e.now)) (reads env (view x) ++ rest) c.operands.result (in_chain env i.field-0 c.args.e.now i.first x i.links i.is n c.get-in-Chain.ensures ∙ sym (ap (λ xs. reads env (view x) ++ all_links env xs) c.as_slice-in-Chain.ensures)) (judges_on a c.expr-in-Chain.new.found.items b (reads env (view x)) rest c.operands.result c.in_ok-expr-in-Chain.ensures c.operands.ensures)
 
 pub expr-returns-in_err-expr-in-Choice : goal.expr-returns-in_err-expr-in-Choice
 expr-returns-in_err-expr-in-Choice t c =

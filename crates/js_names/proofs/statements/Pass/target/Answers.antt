@@ -2,7 +2,7 @@ use Rattle.std.proofs.Common.{[], ◌∷◌}
 use Rattle.script_tree.specs.View.{view}
 use Rattle.script_names.specs.Names.{reads, writes, write_as}
 use Rattle.js_names.specs.Scopes.{env_of}
-use Rattle.js_names.proofs.Reading.{judges_as, not_empty}
+use Rattle.js_names.proofs.Reading.{judges_as}
 use Rattle.js_names.proofs.Going.{written, written_name, round_var, unary_var, choice_var, member_var, chain_var}
 use Rattle.js_names.proofs.statements.Pass.target.Goals as goal
 
@@ -11,15 +11,15 @@ returns-in-Name-clause-judges c =
     let env = env_of c.args.self.now.scopes in
     judges_as c.args.self.now.found.items c.write.new.self.found.items (writes env (view c.args.t.now)) (write_as c.in-Name.name.at (env c.as_slice.result.now) ∷ []) c.write.result (written_name env c.args.t.now c.in-Name.name c.as_slice.result.now c.in-Name.is c.as_slice.ensures) c.write.ensures.judges
 
-pub returns-else-is_empty-clause-judges : goal.returns-else-is_empty-clause-judges
-returns-else-is_empty-clause-judges c =
+pub returns-in-Member-clause-judges : goal.returns-in-Member-clause-judges
+returns-in-Member-clause-judges c =
     let env = env_of c.args.self.now.scopes in
-    judges_as c.args.self.now.found.items c.expr.new.self.found.items (writes env (view c.args.t.now)) (reads env (view c.args.t.now)) c.expr.result (written env (view c.args.t.now) (member_var c.args.t.now c.in-Member.field-0 c.in-Member.accesses c.in-Member.is (not_empty c.in-Member.accesses c.is_empty.result c.is_empty.ensures c.if-is_empty.false))) c.expr.ensures.judges
+    judges_as c.args.self.now.found.items c.expr-in-Member.new.self.found.items (writes env (view c.args.t.now)) (reads env (view c.args.t.now)) c.expr-in-Member.result (written env (view c.args.t.now) (member_var c.args.t.now c.in-Member.field-0 c.in-Member.field-1 c.in-Member.is)) c.expr-in-Member.ensures.judges
 
-pub returns-else-is_empty-2-clause-judges : goal.returns-else-is_empty-2-clause-judges
-returns-else-is_empty-2-clause-judges c =
+pub returns-in-Chain-clause-judges : goal.returns-in-Chain-clause-judges
+returns-in-Chain-clause-judges c =
     let env = env_of c.args.self.now.scopes in
-    judges_as c.args.self.now.found.items c.expr-in-Chain.new.self.found.items (writes env (view c.args.t.now)) (reads env (view c.args.t.now)) c.expr-in-Chain.result (written env (view c.args.t.now) (chain_var c.args.t.now c.in-Chain.field-1 c.in-Chain.field-0 c.in-Chain.links c.in-Chain.is (not_empty c.in-Chain.links c.is_empty-in-Chain.result c.is_empty-in-Chain.ensures c.if-is_empty-2.false))) c.expr-in-Chain.ensures.judges
+    judges_as c.args.self.now.found.items c.expr-in-Chain.new.self.found.items (writes env (view c.args.t.now)) (reads env (view c.args.t.now)) c.expr-in-Chain.result (written env (view c.args.t.now) (chain_var c.args.t.now c.in-Chain.field-1 c.in-Chain.field-0 c.in-Chain.field-2 c.in-Chain.is)) c.expr-in-Chain.ensures.judges
 
 pub returns-in-Round-clause-judges : goal.returns-in-Round-clause-judges
 returns-in-Round-clause-judges c =
