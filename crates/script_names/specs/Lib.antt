@@ -1,0 +1,4 @@
+pub mod Environments
+pub mod Names
+pub mod Slots
+pub mod Examples
