@@ -1,8 +1,9 @@
 -- What the calls on a run's objects answer and leave. Each call reads one container, or rewrites the table of one object, or
 -- makes new objects; where several refusals hold, the first in the order of `DraftFault` is answered.
-use Rattle.std.specs.Prelude.{ℕ, suc, ℤ, pos, List, [], ◌∷◌, ◌++◌, length, map, take, drop, slice_get, slice_set, Option, Some, None, option_map, Bool, true, false, not, ◌||◌, ◌==◌, nat_lt, if◌then◌else◌, Result, Ok, Err}
+use Rattle.std.specs.Prelude.{ℕ, suc, ℤ, pos, List, [], ◌∷◌, ◌++◌, length, map, slice_get, slice_set, Option, Some, None, option_map, Bool, true, false, not, ◌||◌, ◌==◌, nat_lt, if◌then◌else◌, Result, Ok, Err}
 use Rattle.std.specs.Ordering.{is_eq, eq_by_cmp}
 use Rattle.std.specs.FinMap.Entries.{find, put, where_key}
+use Rattle.std.specs.List.{splice}
 use Rattle.value_model.specs.declared.key.Key.{Key}
 use Rattle.value_model.specs.declared.key.Key.TheVariants as key
 use Rattle.value_model.specs.declared.words.Kind.{Kind}
@@ -245,7 +246,7 @@ rewrite f h of = rewrite_shown f h of (shown h of)
 
 -- the items from `from` up to `to` replaced by these
 abbrev pub spliced : ℕ → ℕ → List Rv → Rows → Rows
-spliced from to items t = take from t ++ map item items ++ drop to t
+spliced from to items t = splice t from to (map item items)
 
 -- the entry of a key set, or absent
 abbrev pub with_key : Key → Option Rv → Rows → Rows

@@ -10,7 +10,7 @@ use value_model::{Key, Kind};
 /// A contract sees them as a list of pairs.
 #[derive(Drop)]
 pub struct Table {
-    entries: Vec<(Key, Rv)>,
+    pub entries: Vec<(Key, Rv)>,
 }
 
 impl Model for Table {
