@@ -18,5 +18,5 @@ returns c =
     let drained : map (λ e. e) h.1 ≡ fresh.items = items_from_drains h.1 (h.3.1.0, h.3.1.1, λ _. (h.3.0, h.3.1.2)) list in
     let whole : h.1 ≡ map item c.args.items.now = sym (map-id h.1) ∙ drained ∙ c.in_ok-fresh.ensures in
     let t = c.args.table.now in
-    let range = c.are_items-differs.ensures ∙ ap (λ (r : Rows). same_tables r (map item c.args.items.now)) (c.deref.ensures.value ∙ ap (λ (u : Rows). slice_range u c.args.from c.args.to) c.table.view_is) in
+    let range = c.are_items-differs.ensures ∙ ap (λ (u : Rows). same_tables (slice_range u c.args.from c.args.to) (map item c.args.items.now)) (c.deref.ensures.value ∙ c.table.view_is) in
     (h.4 ∙ ap (λ (u : Rows). splice u c.args.from c.args.to h.1) c.table.view_is ∙ ap (splice t c.args.from c.args.to) whole, ap not (range ∙ sym (spliced_differs t c.args.from c.args.to c.args.items.now c.requires.ordered c.requires.in_range)))
