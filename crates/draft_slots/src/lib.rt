@@ -1,6 +1,11 @@
 //! One object of a run: reading and changing its table, and reading a frozen node as an object.
 #![tactic(auto)]
 
+mod change;
+mod look;
+mod nodes;
 mod table;
 
-pub use table::{position, set_key};
+pub use change::{Change, rewrite};
+pub use look::Look;
+pub use nodes::node_content;

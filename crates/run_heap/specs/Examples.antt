@@ -1,5 +1,6 @@
 -- Worked rows. Scope 7 is begun at the state {"a":{"x":0},"b":{"x":0}}, whose container a is 1, b is 2, and the root 3; its
 -- drafts are 0 (the root), 1 (a) and 2 (b).
+use Rattle.std.proofs.Math.ListN.{replicate}
 use Rattle.std.specs.Prelude.{◌≡◌, ℕ, pos, negsuc, List, [], ◌∷◌, codes, refl, Option, Some, None, Bool, true, false, Result, Ok, Err}
 use Rattle.value_model.specs.declared.key.Key.{Key}
 use Rattle.value_model.specs.declared.key.Key.TheVariants.{Null, Int, Text}
@@ -12,7 +13,7 @@ use Rattle.run_heap.specs.declared.content.Content.{Content}
 use Rattle.run_heap.specs.declared.fault.DraftFault.{DraftFault}
 use Rattle.run_heap.specs.declared.fault.DraftFault.TheVariants as fault
 use Rattle.run_heap.specs.Heap.{Heap, opened, shown, fresh}
-use Rattle.run_heap.specs.Operations.{get, put_at, remove_at, keys, len, original, rewrite, spliced, with_plain, plain_value, marked}
+use Rattle.run_heap.specs.Operations.{get, put_at, remove_at, keys, len, original, set_key, splice_at, empty, with_plain, plain_value, marked, source, any_written, new_of}
 use Rattle.run_heap.specs.Places.{place_of}
 
 abbrev a : Key
@@ -161,7 +162,7 @@ appended = refl
 hole : put_at (int 3) Undefined twice (object 0) ≡ Err fault.Hole
 hole = refl
 
-cut : shown (rewrite (spliced 0 1 (Prim Null ∷ Prim Null ∷ [])) twice (object 0)) (object 0) ≡ Some (record { kind = kind.List; table = (Null, Prim Null) ∷ (Null, Prim Null) ∷ (Null, object 2) ∷ []; source = Some 2; written = true })
+cut : shown (splice_at 0 1 (Prim Null ∷ Prim Null ∷ []) twice (object 0)) (object 0) ≡ Some (record { kind = kind.List; table = (Null, Prim Null) ∷ (Null, Prim Null) ∷ (Null, object 2) ∷ []; source = Some 2; written = true })
 cut = refl
 
 second_place : place_of twice (object 2) ≡ Some (int 1 ∷ [])
@@ -195,3 +196,81 @@ inside = refl
 
 no_draft : place_of (with_plain value start) (object 3) ≡ None
 no_draft = refl
+
+-- ---- more refusals
+long_key : Key
+long_key = Text (replicate 1025 97)
+
+too_long : put_at long_key (Prim Null) start (object 0) ≡ Err fault.KeyTooLong
+unfolding long_key
+too_long = refl
+
+long_is_absent : get long_key start (object 0) ≡ Ok Undefined
+unfolding long_key
+long_is_absent = refl
+
+long_removed : marked (left start (remove_at long_key start (object 0))) (object 0) ≡ false
+unfolding long_key
+long_removed = refl
+
+negative_put : put_at (Int (negsuc 0)) (Prim Null) twice (object 0) ≡ Err fault.Hole
+negative_put = refl
+
+frozen_removal : remove_at (Text (codes "__proto__")) start (Frozen 3) ≡ Err fault.Frozen
+frozen_removal = refl
+
+frozen_reserved : get (Text (codes "__proto__")) start (Frozen 3) ≡ Err fault.ReservedKey
+frozen_reserved = refl
+
+frozen_keys : shown (left start (keys start (Frozen 1))) (object 3) ≡ Some (fresh kind.List ((Null, Prim x) ∷ []))
+frozen_keys = refl
+
+frozen_len : len twice (Frozen 2) ≡ Ok 2
+frozen_len = refl
+
+put_on_primitive : put_at a Undefined start (Prim Null) ≡ Err fault.TypeMismatch
+put_on_primitive = refl
+
+put_on_map : put_at a (Prim Null) members (object 1) ≡ Err fault.TypeMismatch
+put_on_map = refl
+
+text_in_list : put_at a (Prim Null) twice (object 0) ≡ Err fault.TypeMismatch
+text_in_list = refl
+
+foreign_original : original start (Obj (record { scope = 8; slot = 0 })) ≡ Err fault.Revoked
+foreign_original = refl
+
+literal_original : original (new_of kind.Obj start) (object 3) ≡ Err fault.NotADraft
+literal_original = refl
+
+-- ---- marks: a literal's doesn't count, that of a draft that stands nowhere does
+literal_marked : any_written (left (new_of kind.Obj start) (put_at x (Prim Null) (new_of kind.Obj start) (object 3))) ≡ false
+literal_marked = refl
+
+draft_marked : any_written (left start (remove_at a (left start (put_at x (Prim Null) start (object 1))) (object 0))) ≡ true
+draft_marked = refl
+
+frozen_source : source start (Frozen 1) ≡ Some 1
+frozen_source = refl
+
+frozen_mark : marked start (Frozen 1) ≡ false
+frozen_mark = refl
+
+-- ---- entries of Maps and Sets, and a list that a splice leaves as it was
+set_in_map : shown (set_key Null (Some (object 0)) members (object 1)) (object 1) ≡ Some (record { kind = kind.Map; table = (Null, object 0) ∷ (int 1, Prim a) ∷ []; source = Some 1; written = true })
+set_in_map = refl
+
+gone_from_set : shown (set_key Null None members (object 2)) (object 2) ≡ Some (record { kind = kind.Set; table = []; source = Some 2; written = true })
+gone_from_set = refl
+
+absent_in_set : marked (set_key a None members (object 2)) (object 2) ≡ false
+absent_in_set = refl
+
+reserved_in_map : shown (set_key (Text (codes "__proto__")) (Some (Prim Null)) members (object 1)) (object 1) ≡ Some (record { kind = kind.Map; table = (int 1, Prim a) ∷ (Text (codes "__proto__"), Prim Null) ∷ []; source = Some 1; written = true })
+reserved_in_map = refl
+
+emptied_twice : marked (empty (new_of kind.Set members) (object 3)) (object 3) ≡ false
+emptied_twice = refl
+
+spliced_same : marked (splice_at 0 1 (object 1 ∷ []) twice (object 0)) (object 0) ≡ false
+spliced_same = refl

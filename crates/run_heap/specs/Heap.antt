@@ -33,14 +33,14 @@ given_value g (prim k) = Prim k
 given_value given.Frozen (node id kind es) = Frozen id
 given_value (given.From r) (node id kind es) = Obj r
 
--- how the containers behind these are given
-abbrev pub past : Given → ℕ → Given
-past given.Frozen n = given.Frozen
-past (given.From r) n = given.From (record { scope = r.scope; slot = r.slot + n })
+-- how the containers behind so many others are given
+abbrev pub after : Given → ℕ → Given
+after given.Frozen n = given.Frozen
+after (given.From r) n = given.From (record { scope = r.scope; slot = r.slot + n })
 
 abbrev pub given_table : Given → Branches → List (Key × Rv)
 given_table g none = []
-given_table g (branch k v es) = (k, given_value g v) ∷ given_table (past g (containers v)) es
+given_table g (branch k v es) = (k, given_value g v) ∷ given_table (after g (containers v)) es
 
 -- a container as it stands in its state
 abbrev pub given_content : Given → Tree → Option Content
@@ -53,6 +53,10 @@ abbrev pub copied : ℕ → ℕ → Option Tree → Option Content
 copied scope n None = None
 copied scope n (Some t) = given_content (given.From (record { scope = scope; slot = n + 1 })) t
 
+-- the object that a name has before it is written
+abbrev pub opening : Heap → ℕ → Option Content
+opening h n = copied h.scope n (place n (tree_at h.states h.root))
+
 -- the heap of a scope at its beginning: the deep copy of a state, and nothing else
 abbrev pub opened : ℕ → List Tree → ℕ → Heap
 opened scope states root = record {
@@ -64,7 +68,8 @@ opened scope states root = record {
 }
 
 -- ---- looking
--- what a container shows: an object its content, a frozen node what stands in it; another value is no container
+-- what a container shows: an object its content, a frozen node what stands in it; another value is no container. It is asked
+-- of values that are no references of another scope
 abbrev pub shown : Heap → Rv → Option Content
 shown h (Obj r) = h.object r.slot
 shown h (Frozen id) = given_content given.Frozen (tree_at h.states id)

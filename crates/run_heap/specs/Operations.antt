@@ -1,6 +1,6 @@
 -- What the calls on a run's objects answer and leave. Each call reads one container, or rewrites the table of one object, or
 -- makes new objects; where several refusals hold, the first in the order of `DraftFault` is answered.
-use Rattle.std.specs.Prelude.{ℕ, suc, ℤ, pos, List, [], ◌∷◌, ◌++◌, length, map, slice_get, slice_set, Option, Some, None, option_map, Bool, true, false, not, ◌||◌, ◌==◌, nat_lt, if◌then◌else◌, Result, Ok, Err}
+use Rattle.std.specs.Prelude.{ℕ, zero, suc, ℤ, pos, List, [], ◌∷◌, ◌++◌, length, map, slice_get, slice_set, Option, Some, None, option_map, Bool, true, false, not, ◌||◌, ◌==◌, nat_lt, if◌then◌else◌, Result, Ok, Err}
 use Rattle.std.specs.Ordering.{is_eq, eq_by_cmp}
 use Rattle.std.specs.FinMap.Entries.{find, put, where_key}
 use Rattle.std.specs.List.{splice}
@@ -8,7 +8,7 @@ use Rattle.value_model.specs.declared.key.Key.{Key}
 use Rattle.value_model.specs.declared.key.Key.TheVariants as key
 use Rattle.value_model.specs.declared.words.Kind.{Kind}
 use Rattle.value_model.specs.declared.words.Kind.TheVariants as kind
-use Rattle.value_model.specs.Limits.{is_long_text, is_reserved_text}
+use Rattle.value_model.specs.Limits.{is_long_text, is_reserved_text, is_reserved_key}
 use Rattle.value_model.specs.Order.{key_cmp}
 use Rattle.value_model.specs.Plain.{Plain}
 use Rattle.numbered.specs.Loading.{numbered, post_order}
@@ -19,7 +19,7 @@ use Rattle.run_heap.specs.declared.value.Rv.TheVariants.{Undefined, Prim, Obj, F
 use Rattle.run_heap.specs.declared.content.Content.{Content}
 use Rattle.run_heap.specs.declared.fault.DraftFault.{DraftFault}
 use Rattle.run_heap.specs.declared.fault.DraftFault.TheVariants as fault
-use Rattle.run_heap.specs.Heap.{Heap, shown, is_foreign, is_draft, write_table, with_objects, with_object, next_object, fresh}
+use Rattle.run_heap.specs.Heap.{Heap, drafts, shown, is_foreign, is_draft, write_table, with_objects, with_object, next_object, fresh}
 
 abbrev pub Rows : Type 0
 Rows = List (Key × Rv)
@@ -137,7 +137,7 @@ abbrev pub put_at : Key → Rv → Heap → Rv → Result (Heap × Unit {0}) Dra
 put_at k v h of = edited (putting k v) h of (v ∷ [])
 
 -- ---- `remove`
--- the table without the entry of a key
+-- the table without the entry of a key, as for plain values
 abbrev pub without : Key → Rows → Rows
 without k t = where_key key_cmp (λ j. not (eq_by_cmp key_cmp k j)) t
 
@@ -150,12 +150,8 @@ abbrev pub is_text_place : Key → Kind → Bool
 is_text_place (key.Text s) kind = is_object kind
 is_text_place _ _ = false
 
-abbrev pub is_reserved : Key → Bool
-is_reserved (key.Text s) = is_reserved_text s
-is_reserved _ = false
-
 abbrev pub removing : Key → Edit (Unit {0})
-removing k = record { takes = is_text_place k; leaves = λ _ t. unless ((is_reserved k, fault.ReservedKey) ∷ []) (no_answer (without k t)) }
+removing k = record { takes = is_text_place k; leaves = λ _ t. unless ((is_reserved_key k, fault.ReservedKey) ∷ []) (no_answer (without k t)) }
 
 abbrev pub remove_at : Key → Heap → Rv → Result (Heap × Unit {0}) DraftFault
 remove_at k h of = edited (removing k) h of []
@@ -168,13 +164,15 @@ listed ks = map (λ k. item (Prim k)) ks
 abbrev pub keys_of : Rows → List Key
 keys_of t = map (λ e. e.0) t
 
-abbrev pub keys_shown : Content → Result (List Key) DraftFault
-keys_shown c = unless ((not (is_object c.kind), fault.TypeMismatch) ∷ []) (Ok (keys_of c.table))
+abbrev pub keys_shown : Content → Result Rows DraftFault
+keys_shown c = unless ((not (is_object c.kind), fault.TypeMismatch) ∷ []) (Ok (listed (keys_of c.table)))
+
+-- a fresh list
+abbrev pub then_list : Heap → Result Rows DraftFault → Result (Heap × Rv) DraftFault
+then_list h (Ok t) = Ok (with_object (fresh kind.List t) h, next_object h)
+then_list h (Err e) = Err e
 
 -- a fresh list of an object's keys, ascending
-abbrev pub then_list : Heap → Result (List Key) DraftFault → Result (Heap × Rv) DraftFault
-then_list h (Ok ks) = Ok (with_object (fresh kind.List (listed ks)) h, next_object h)
-then_list h (Err e) = Err e
 
 abbrev pub keys : Heap → Rv → Result (Heap × Rv) DraftFault
 keys h of = then_list h (read keys_shown h of [])
@@ -204,10 +202,25 @@ original h v =
     unless ((is_foreign h v, fault.Revoked) ∷ (not (is_draft h v), fault.NotADraft) ∷ [])
     (Ok (frozen_at (place (slot_of v) (tree_at h.states h.root))))
 
--- a draft whose mark is set
+-- the mark of an object
 abbrev pub is_marked : Option Content → Bool
 is_marked None = false
 is_marked (Some c) = c.written
+
+-- some number below passes the test
+abbrev pub any_below : ℕ → (ℕ → Bool) → Bool
+any_below zero p = false
+any_below (suc n) p = p n || any_below n p
+
+-- some draft's mark is set; literals don't count
+abbrev pub any_written : Heap → Bool
+any_written h = any_below (drafts h) (λ n. is_marked (h.object n))
+
+abbrev pub root_draft : Heap → Rv
+root_draft h = Obj (record { scope = h.scope; slot = 0 })
+
+abbrev pub owns : Heap → Rv → Bool
+owns h v = not (is_foreign h v)
 
 -- ---- calls that have conditions where the others have refusals
 abbrev pub kind_of : Heap → Rv → Option Kind
@@ -221,10 +234,22 @@ rows_of (Some c) = c.table
 abbrev pub table_of : Heap → Rv → Rows
 table_of h v = rows_of (shown h v)
 
+abbrev pub count : Heap → Rv → ℕ
+count h of = length (table_of h of)
+
+abbrev pub key_at : Heap → Rv → ℕ → Option Key
+key_at h of i = slice_get (keys_of (table_of h of)) i
+
+abbrev pub entry_at : Heap → Rv → ℕ → Option Rv
+entry_at h of i = value_at i (table_of h of)
+
 -- the index of the entry with a key
 abbrev pub position : Key → Rows → Option ℕ
 position k [] = None
 position k (e ∷ es) = if is_eq (key_cmp k e.0) then Some 0 else option_map suc (position k es)
+
+abbrev pub find_key : Heap → Rv → Key → Option ℕ
+find_key h of k = position k (table_of h of)
 
 abbrev pub marked : Heap → Rv → Bool
 marked h v = is_marked (shown h v)
@@ -255,6 +280,19 @@ with_key k None t = without k t
 
 abbrev pub emptied : Rows → Rows
 emptied t = []
+
+abbrev pub set_key : Key → Option Rv → Heap → Rv → Heap
+set_key k v h of = rewrite (with_key k v) h of
+
+abbrev pub splice_at : ℕ → ℕ → List Rv → Heap → Rv → Heap
+splice_at from to items h of = rewrite (spliced from to items) h of
+
+abbrev pub empty : Heap → Rv → Heap
+empty h of = rewrite emptied h of
+
+-- a fresh empty object, list, Map or Set
+abbrev pub new_of : Kind → Heap → Heap
+new_of kind h = with_object (fresh kind []) h
 
 -- ---- fresh literals of a plain value: its containers get the next names in post-order
 abbrev pub named_value : ℕ → Tree → Rv

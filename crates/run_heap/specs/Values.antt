@@ -1,4 +1,4 @@
--- Which values of a run are the same, and when two tables differ.
+-- Which values of a run are the same, and which tables.
 use Rattle.std.specs.Prelude.{◌==◌, Bool, true, false, ◌&&◌, List, [], ◌∷◌}
 use Rattle.std.specs.Ordering.{is_eq}
 use Rattle.value_model.specs.declared.key.Key.{Key}

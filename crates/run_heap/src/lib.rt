@@ -1,8 +1,8 @@
 //! The objects of one run: values of a run, the heap that names its objects, and what each call makes of it.
 //!
-//! The definitions stand in `specs/`: `Heap` (objects, their contents, the deep copy of a state), `Values` (which values are
-//! the same, which are of a heap), `Operations` (what a call answers and leaves), `Places` (the paths of drafts), `Examples`
-//! (worked rows).
+//! The definitions stand in `specs/`: `Heap` (objects, their contents, the deep copy of a state), `Values` (which values and
+//! tables are the same), `Operations` (what a call answers and leaves), `Answers` (how code answers that), `Places` (the paths of
+//! drafts), `Sound` (what holds of every heap of a run), `Examples` (worked rows).
 #![tactic(auto)]
 
 mod content;

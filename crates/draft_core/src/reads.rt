@@ -1,0 +1,240 @@
+//! Calls that read. None of them makes an object's table.
+ghost use Rattle.std.specs.Prelude.{◌≡◌, ◌≢◌, ◌<◌, ◌↔◌, List, ℕ, IfOk, IfSome, IsTrue, Some, false, option_map, length, slice_get};
+ghost use Rattle.numbered.specs.Tree.{Tree};
+ghost use Rattle.value_model.specs.declared.words.Kind.TheVariants as kind;
+ghost use Rattle.run_heap.specs.Answers.{Answers};
+ghost use Rattle.run_heap.specs.Heap.{drafts, is_foreign};
+ghost use Rattle.run_heap.specs.Operations as spec;
+ghost use Rattle.run_heap.specs.Operations.{table_of, value_at};
+ghost use Rattle.run_heap.specs.Places as places;
+ghost use Rattle.run_heap.specs.Sound.{Fits, Owned, IsContainer, IsObject, IsStored};
+ghost use Rattle.draft_core.specs.Seen.{heap, Stands, IsPeek};
+
+use crate::scope::Scope;
+use draft_slots::Look;
+use node_store::{Cell, Kind, NodeId, Store};
+use run_heap::{DraftFault, Rv};
+use std::alloc::{AllocError, Global};
+use value_model::Key;
+use values::Path;
+
+/// A value as it is kept.
+#[derive(Drop)]
+pub enum Peek<'a> {
+    /// A value of an object with a table of its own.
+    Read(&'a Rv),
+    /// An entry of a node: its container has no table of its own.
+    Untouched(&'a Cell),
+}
+
+impl Scope {
+    /// An object's value by a text, a list's element by an integer; `Undefined` where there is none. `TypeMismatch` for another
+    /// operand or kind of key, `ReservedKey` for a reserved key of an object.
+    pub fn get(
+        &mut self,
+        alloc: Global,
+        store: &Store,
+        of: &Rv,
+        key: &Key,
+    ) -> Result<Rv, DraftFault>
+        requires stands { Stands store.now self.old }
+        requires owned { Owned (heap store.now self.old) of.now }
+        ensures answer { Answers result (spec.get key.now (heap store.now self.old) of.now) }
+        ensures fits { IfOk result (λ v. Fits (heap store.now self.old) v) }
+        ensures same { self.new ≡ self.old }
+    {
+        if !self.owns(of) {
+            return Err(DraftFault::Revoked);
+        }
+        match self.look(store, of) {
+            Some(look) => look.entry(alloc, store, key),
+            None => Err(DraftFault::TypeMismatch),
+        }
+    }
+
+    /// The length of a list. `TypeMismatch` for another operand. It takes no memory.
+    pub fn len(&self, store: &Store, of: &Rv) -> Result<u64, DraftFault>
+        requires stands { Stands store.now self.now }
+        requires owned { Owned (heap store.now self.now) of.now }
+        ensures { result ≡ spec.len (heap store.now self.now) of.now }
+    {
+        if !self.owns(of) {
+            return Err(DraftFault::Revoked);
+        }
+        match self.look(store, of) {
+            Some(look) => match look.kind(store) {
+                Kind::List => Ok(look.count(store) as u64),
+                _ => Err(DraftFault::TypeMismatch),
+            },
+            None => Err(DraftFault::TypeMismatch),
+        }
+    }
+
+    /// The frozen container that a draft was opened on; `NotADraft` for any other value. It takes no memory.
+    pub fn original(&self, store: &Store, v: &Rv) -> Result<Rv, DraftFault>
+        requires { Stands store.now self.now }
+        ensures answer { result ≡ spec.original (heap store.now self.now) v.now }
+        ensures fits { IfOk result (λ w. Fits (heap store.now self.now) w) }
+    {
+        if !self.owns(v) {
+            return Err(DraftFault::Revoked);
+        }
+        match v {
+            Rv::Obj(object) => {
+                if object.slot < self.drafts {
+                    Ok(Rv::Frozen(store.locate(self.root, object.slot)))
+                } else {
+                    Err(DraftFault::NotADraft)
+                }
+            }
+            _ => Err(DraftFault::NotADraft),
+        }
+    }
+
+    /// Whether a draft's content was changed. It takes no memory.
+    pub fn any_written(&self) -> bool
+        ensures some { (ts : List Tree) → Stands ts self.now → IsTrue result → (n : ℕ) × (n < drafts (heap ts self.now)) × IsTrue (spec.is_marked ((heap ts self.now).object n)) }
+        ensures none { (ts : List Tree) → Stands ts self.now → result ≡ false → (n : ℕ) → n < drafts (heap ts self.now) → spec.is_marked ((heap ts self.now).object n) ≡ false }
+    {
+        self.touched.values().any(|content| content.written)
+    }
+
+    /// What kind of container a value is, None exactly for `Undefined` and a primitive. It takes no memory.
+    pub fn kind_of(&self, store: &Store, v: &Rv) -> Option<Kind>
+        requires stands { Stands store.now self.now }
+        requires owned { Owned (heap store.now self.now) v.now }
+        requires ours { is_foreign (heap store.now self.now) v.now ≡ false }
+        ensures { result ≡ spec.kind_of (heap store.now self.now) v.now }
+    {
+        match self.look(store, v) {
+            Some(look) => Some(look.kind(store)),
+            None => None,
+        }
+    }
+
+    /// How many entries a container has. It takes no memory.
+    pub fn count(&self, store: &Store, of: &Rv) -> usize
+        requires stands { Stands store.now self.now }
+        requires container { IsContainer (heap store.now self.now) of.now }
+        ensures { result ≡ length (table_of (heap store.now self.now) of.now) }
+    {
+        match self.look(store, of) {
+            Some(look) => look.count(store),
+            None => 0,
+        }
+    }
+
+    /// The index of the entry with a key, None exactly where the key is absent. It takes no memory.
+    pub fn find(&self, store: &Store, of: &Rv, key: &Key) -> Option<usize>
+        requires stands { Stands store.now self.now }
+        requires container { IsContainer (heap store.now self.now) of.now }
+        requires keyed { spec.kind_of (heap store.now self.now) of.now ≢ Some kind.List }
+        ensures { result ≡ spec.position key.now (table_of (heap store.now self.now) of.now) }
+    {
+        match self.look(store, of) {
+            Some(look) => look.find(store, key),
+            None => None,
+        }
+    }
+
+    /// The key of an entry. It takes no memory.
+    pub fn key_at<'a>(&'a self, store: &'a Store, of: &Rv, i: usize) -> &'a Key
+        requires stands { Stands store.now self.now }
+        requires container { IsContainer (heap store.now self.now) of.now }
+        requires keyed { spec.kind_of (heap store.now self.now) of.now ≢ Some kind.List }
+        requires in_range { i < length (table_of (heap store.now self.now) of.now) }
+        ensures { slice_get (spec.keys_of (table_of (heap store.now self.now) of.now)) i ≡ Some result.now }
+    {
+        match self.look(store, of) {
+            Some(look) => look.key(store, i),
+            None => unreachable!(),
+        }
+    }
+
+    /// The value of an entry, as `get` gives it.
+    pub fn entry_at(
+        &mut self,
+        alloc: Global,
+        store: &Store,
+        of: &Rv,
+        i: usize,
+    ) -> Result<Rv, AllocError>
+        requires stands { Stands store.now self.old }
+        requires container { IsContainer (heap store.now self.old) of.now }
+        requires in_range { i < length (table_of (heap store.now self.old) of.now) }
+        ensures value { IfOk result (λ v. value_at i (table_of (heap store.now self.old) of.now) ≡ Some v) }
+        ensures stored { IfOk result (λ v. IsStored (heap store.now self.old) v) }
+        ensures same { self.new ≡ self.old }
+    {
+        match self.look(store, of) {
+            Some(look) => look.value(alloc, store, i),
+            None => unreachable!(),
+        }
+    }
+
+    /// The value of an entry as it is kept. It takes no memory.
+    pub fn peek<'a>(&'a self, store: &'a Store, of: &Rv, i: usize) -> Peek<'a>
+        requires stands { Stands store.now self.now }
+        requires container { IsContainer (heap store.now self.now) of.now }
+        requires in_range { i < length (table_of (heap store.now self.now) of.now) }
+        ensures { IsPeek (heap store.now self.now) of.now i result }
+    {
+        match self.look(store, of) {
+            Some(Look::Own(content)) => Peek::Read(&content.table.as_slice()[i].1),
+            Some(Look::Node(id, _)) => Peek::Untouched(store.cell(id, i)),
+            None => unreachable!(),
+        }
+    }
+
+    /// Whether the value of an entry is the same as another one. It takes no memory.
+    pub fn same_at(&self, store: &Store, of: &Rv, i: usize, item: &Rv) -> bool
+        requires stands { Stands store.now self.now }
+        requires container { IsContainer (heap store.now self.now) of.now }
+        requires in_range { i < length (table_of (heap store.now self.now) of.now) }
+        ensures { IfSome (value_at i (table_of (heap store.now self.now) of.now)) (λ v. result ≡ spec.same v item.now) }
+    {
+        match self.look(store, of) {
+            Some(look) => look.same(store, i, item),
+            None => unreachable!(),
+        }
+    }
+
+    /// Whether a write left the object different. A frozen container isn't written. It takes no memory.
+    pub fn written(&self, of: &Rv) -> bool
+        ensures { (ts : List Tree) → Stands ts self.now → IsContainer (heap ts self.now) of.now → result ≡ spec.marked (heap ts self.now) of.now }
+    {
+        match of {
+            Rv::Obj(object) => self.written_at(object.slot),
+            _ => false,
+        }
+    }
+
+    /// The container that the object was opened on, None exactly for a literal; of a frozen container itself. It takes no memory.
+    pub fn source(&self, store: &Store, of: &Rv) -> Option<NodeId>
+        requires stands { Stands store.now self.now }
+        requires container { IsContainer (heap store.now self.now) of.now }
+        ensures { result ≡ spec.source (heap store.now self.now) of.now }
+    {
+        match self.look(store, of) {
+            Some(look) => look.source(),
+            None => None,
+        }
+    }
+
+    /// The path of a draft in the opening state, None exactly for what isn't a draft.
+    pub fn place_of(&self, alloc: Global, store: &Store, of: &Rv) -> Result<Option<Path>, AllocError>
+        requires { Stands store.now self.now }
+        ensures { IfOk result (λ p. p ≡ places.place_of (heap store.now self.now) of.now) }
+    {
+        match of {
+            Rv::Obj(object) => {
+                if self.is_draft(of) {
+                    Ok(Some(self.path_to(alloc, store, object.slot)?))
+                } else {
+                    Ok(None)
+                }
+            }
+            _ => Ok(None),
+        }
+    }
+}
