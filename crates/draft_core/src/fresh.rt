@@ -1,12 +1,12 @@
 //! Calls that make objects.
-ghost use Rattle.std.specs.Prelude.{◌≡◌, ◌+◌, ◌≤◌, List, [], None};
+ghost use Rattle.std.specs.Prelude.{◌≡◌, ◌+◌, ◌≤◌, List, None};
 ghost use Rattle.numbered.specs.Tree.{Tree};
 ghost use Rattle.value_model.specs.Limits.{value_limit};
 ghost use Rattle.value_model.specs.declared.words.Kind.TheVariants as kind;
 ghost use Rattle.run_heap.specs.Answers.{Does, Makes};
-ghost use Rattle.run_heap.specs.Heap.{with_object, next_object, fresh};
+ghost use Rattle.run_heap.specs.Heap.{next_object};
 ghost use Rattle.run_heap.specs.Operations as spec;
-ghost use Rattle.run_heap.specs.Sound.{Owned, Fits, Grows};
+ghost use Rattle.run_heap.specs.Sound.{Owned, Grows};
 ghost use Rattle.draft_core.specs.Seen.{heap, Stands};
 ghost use Rattle.draft_core.specs.Writes.{slots};
 
@@ -19,7 +19,7 @@ use values::Val;
 impl Scope {
     /// A fresh empty literal.
     pub fn new_of(&mut self, alloc: Global, kind: Kind) -> Result<Rv, AllocError>
-        ensures done { (ts : List Tree) → Stands ts self.old → Makes result (heap ts self.old) (heap ts self.new) (with_object (fresh kind []) (heap ts self.old)) (next_object (heap ts self.old)) }
+        ensures done { (ts : List Tree) → Stands ts self.old → Makes result (heap ts self.old) (heap ts self.new) (spec.new_of kind (heap ts self.old)) (next_object (heap ts self.old)) }
         ensures stands { (ts : List Tree) → Stands ts self.old → Stands ts self.new }
         ensures grows { (ts : List Tree) → Stands ts self.old → Grows (heap ts self.old) (heap ts self.new) }
         ensures tables { slots self.new ≤ slots self.old + 1 }
@@ -29,7 +29,7 @@ impl Scope {
 
     /// A fresh empty object.
     pub fn new_object(&mut self, alloc: Global) -> Result<Rv, AllocError>
-        ensures done { (ts : List Tree) → Stands ts self.old → Makes result (heap ts self.old) (heap ts self.new) (with_object (fresh kind.Obj []) (heap ts self.old)) (next_object (heap ts self.old)) }
+        ensures done { (ts : List Tree) → Stands ts self.old → Makes result (heap ts self.old) (heap ts self.new) (spec.new_of kind.Obj (heap ts self.old)) (next_object (heap ts self.old)) }
         ensures stands { (ts : List Tree) → Stands ts self.old → Stands ts self.new }
         ensures grows { (ts : List Tree) → Stands ts self.old → Grows (heap ts self.old) (heap ts self.new) }
         ensures tables { slots self.new ≤ slots self.old + 1 }
@@ -39,7 +39,7 @@ impl Scope {
 
     /// A fresh empty list.
     pub fn new_list(&mut self, alloc: Global) -> Result<Rv, AllocError>
-        ensures done { (ts : List Tree) → Stands ts self.old → Makes result (heap ts self.old) (heap ts self.new) (with_object (fresh kind.List []) (heap ts self.old)) (next_object (heap ts self.old)) }
+        ensures done { (ts : List Tree) → Stands ts self.old → Makes result (heap ts self.old) (heap ts self.new) (spec.new_of kind.List (heap ts self.old)) (next_object (heap ts self.old)) }
         ensures stands { (ts : List Tree) → Stands ts self.old → Stands ts self.new }
         ensures grows { (ts : List Tree) → Stands ts self.old → Grows (heap ts self.old) (heap ts self.new) }
         ensures tables { slots self.new ≤ slots self.old + 1 }

@@ -1,13 +1,15 @@
 //! Calls that read. None of them makes an object's table.
-ghost use Rattle.std.specs.Prelude.{◌≡◌, ◌≢◌, ◌<◌, ◌↔◌, List, ℕ, IfOk, IfSome, IsTrue, Some, false, option_map, length, slice_get};
-ghost use Rattle.numbered.specs.Tree.{Tree};
+ghost use Rattle.std.specs.Prelude.{◌≡◌, ◌≢◌, ◌<◌, ◌≤◌, List, length, IfOk, IfSome, Some, false};
+ghost use Rattle.node_store.specs.Nodes.{cells_of};
+ghost use Rattle.numbered.specs.Store.{tree_at};
+ghost use Rattle.numbered.specs.Tree.{Tree, containers};
 ghost use Rattle.value_model.specs.declared.words.Kind.TheVariants as kind;
 ghost use Rattle.run_heap.specs.Answers.{Answers};
-ghost use Rattle.run_heap.specs.Heap.{drafts, is_foreign};
+ghost use Rattle.run_heap.specs.Heap.{is_foreign};
 ghost use Rattle.run_heap.specs.Operations as spec;
-ghost use Rattle.run_heap.specs.Operations.{table_of, value_at};
 ghost use Rattle.run_heap.specs.Places as places;
-ghost use Rattle.run_heap.specs.Sound.{Fits, Owned, IsContainer, IsObject, IsStored};
+ghost use Rattle.run_heap.specs.Sound.{Fits, Owned, IsContainer, IsStored};
+ghost use Rattle.run_heap.specs.Values.{same};
 ghost use Rattle.draft_core.specs.Seen.{heap, Stands, IsPeek};
 
 use crate::scope::Scope;
@@ -93,8 +95,7 @@ impl Scope {
 
     /// Whether a draft's content was changed. It takes no memory.
     pub fn any_written(&self) -> bool
-        ensures some { (ts : List Tree) → Stands ts self.now → IsTrue result → (n : ℕ) × (n < drafts (heap ts self.now)) × IsTrue (spec.is_marked ((heap ts self.now).object n)) }
-        ensures none { (ts : List Tree) → Stands ts self.now → result ≡ false → (n : ℕ) → n < drafts (heap ts self.now) → spec.is_marked ((heap ts self.now).object n) ≡ false }
+        ensures { (ts : List Tree) → Stands ts self.now → result ≡ spec.any_written (heap ts self.now) }
     {
         self.touched.values().any(|content| content.written)
     }
@@ -116,7 +117,7 @@ impl Scope {
     pub fn count(&self, store: &Store, of: &Rv) -> usize
         requires stands { Stands store.now self.now }
         requires container { IsContainer (heap store.now self.now) of.now }
-        ensures { result ≡ length (table_of (heap store.now self.now) of.now) }
+        ensures { result ≡ spec.count (heap store.now self.now) of.now }
     {
         match self.look(store, of) {
             Some(look) => look.count(store),
@@ -129,7 +130,7 @@ impl Scope {
         requires stands { Stands store.now self.now }
         requires container { IsContainer (heap store.now self.now) of.now }
         requires keyed { spec.kind_of (heap store.now self.now) of.now ≢ Some kind.List }
-        ensures { result ≡ spec.position key.now (table_of (heap store.now self.now) of.now) }
+        ensures { result ≡ spec.find_key (heap store.now self.now) of.now key.now }
     {
         match self.look(store, of) {
             Some(look) => look.find(store, key),
@@ -142,8 +143,8 @@ impl Scope {
         requires stands { Stands store.now self.now }
         requires container { IsContainer (heap store.now self.now) of.now }
         requires keyed { spec.kind_of (heap store.now self.now) of.now ≢ Some kind.List }
-        requires in_range { i < length (table_of (heap store.now self.now) of.now) }
-        ensures { slice_get (spec.keys_of (table_of (heap store.now self.now) of.now)) i ≡ Some result.now }
+        requires in_range { i < spec.count (heap store.now self.now) of.now }
+        ensures { spec.key_at (heap store.now self.now) of.now i ≡ Some result.now }
     {
         match self.look(store, of) {
             Some(look) => look.key(store, i),
@@ -161,8 +162,8 @@ impl Scope {
     ) -> Result<Rv, AllocError>
         requires stands { Stands store.now self.old }
         requires container { IsContainer (heap store.now self.old) of.now }
-        requires in_range { i < length (table_of (heap store.now self.old) of.now) }
-        ensures value { IfOk result (λ v. value_at i (table_of (heap store.now self.old) of.now) ≡ Some v) }
+        requires in_range { i < spec.count (heap store.now self.old) of.now }
+        ensures value { IfOk result (λ v. spec.entry_at (heap store.now self.old) of.now i ≡ Some v) }
         ensures stored { IfOk result (λ v. IsStored (heap store.now self.old) v) }
         ensures same { self.new ≡ self.old }
     {
@@ -176,7 +177,7 @@ impl Scope {
     pub fn peek<'a>(&'a self, store: &'a Store, of: &Rv, i: usize) -> Peek<'a>
         requires stands { Stands store.now self.now }
         requires container { IsContainer (heap store.now self.now) of.now }
-        requires in_range { i < length (table_of (heap store.now self.now) of.now) }
+        requires in_range { i < spec.count (heap store.now self.now) of.now }
         ensures { IsPeek (heap store.now self.now) of.now i result }
     {
         match self.look(store, of) {
@@ -190,8 +191,8 @@ impl Scope {
     pub fn same_at(&self, store: &Store, of: &Rv, i: usize, item: &Rv) -> bool
         requires stands { Stands store.now self.now }
         requires container { IsContainer (heap store.now self.now) of.now }
-        requires in_range { i < length (table_of (heap store.now self.now) of.now) }
-        ensures { IfSome (value_at i (table_of (heap store.now self.now) of.now)) (λ v. result ≡ spec.same v item.now) }
+        requires in_range { i < spec.count (heap store.now self.now) of.now }
+        ensures { IfSome (spec.entry_at (heap store.now self.now) of.now i) (λ v. result ≡ same v item.now) }
     {
         match self.look(store, of) {
             Some(look) => look.same(store, i, item),
@@ -229,12 +230,65 @@ impl Scope {
         match of {
             Rv::Obj(object) => {
                 if self.is_draft(of) {
-                    Ok(Some(self.path_to(alloc, store, object.slot)?))
+                    Ok(Some(path_to(alloc, store, self.root, object.slot)?))
                 } else {
                     Ok(None)
                 }
             }
             _ => Ok(None),
         }
+    }
+
+    /// The mark of an object.
+    fn written_at(&self, name: u64) -> bool
+        ensures { (ts : List Tree) → Stands ts self.now → name < (heap ts self.now).next → result ≡ spec.is_marked ((heap ts self.now).object name) }
+    {
+        if name >= self.drafts {
+            return match self.later.get((name - self.drafts) as usize) {
+                Some(content) => content.written,
+                None => false,
+            };
+        }
+        match self.touched.get(&name) {
+            Some(content) => content.written,
+            None => false,
+        }
+    }
+}
+
+/// The path of the n-th container place of a state.
+fn path_to(alloc: Global, store: &Store, root: NodeId, n: u64) -> Result<Path, AllocError>
+    requires number { root ≤ length store.now }
+    requires inside { n < containers (tree_at store.now root) }
+    ensures { IfOk result (λ p. p ≡ places.path_to n (tree_at store.now root)) }
+{
+    let mut steps = Vec::new(alloc);
+    let mut id = root;
+    let mut left = n;
+    while left > 0 {
+        let i = store.entry_at(id, left - 1);
+        steps.push(step(alloc, store, id, i)?)?;
+        left = left - 1 - store.before(id, i);
+        id = child(store, id, i);
+    }
+    Ok(Path::from_vec(steps))
+}
+
+/// The step to an entry: an index of a list, else the key.
+fn step(alloc: Global, store: &Store, id: NodeId, i: usize) -> Result<Key, AllocError>
+    requires number { id ≤ length store.now }
+    requires in_range { i < length (cells_of (tree_at store.now id)) }
+{
+    Ok(Key::Null)
+}
+
+/// The container in an entry.
+fn child(store: &Store, id: NodeId, i: usize) -> NodeId
+    requires number { id ≤ length store.now }
+    requires in_range { i < length (cells_of (tree_at store.now id)) }
+{
+    match store.cell(id, i) {
+        Cell::Node(child) => *child,
+        Cell::Prim(_) => unreachable!(),
     }
 }

@@ -5,6 +5,7 @@ ghost use Rattle.node_store.specs.Nodes.{kind_of};
 ghost use Rattle.run_heap.specs.Heap.{opened, shown, is_draft, is_foreign};
 ghost use Rattle.run_heap.specs.Operations as spec;
 ghost use Rattle.run_heap.specs.Sound.{Fits, Owned};
+ghost use Rattle.run_heap.specs.Values.{same};
 ghost use Rattle.draft_slots.specs.Looks.{looked, IsLook};
 ghost use Rattle.draft_core.specs.Seen.{heap, Stands};
 
@@ -54,7 +55,7 @@ impl Scope {
 
     /// The root draft.
     pub fn root(&self) -> Rv
-        ensures value { (ts : List Tree) → Stands ts self.now → result ≡ spec.root_of (heap ts self.now) }
+        ensures value { (ts : List Tree) → Stands ts self.now → result ≡ spec.root_draft (heap ts self.now) }
         ensures fits { (ts : List Tree) → Stands ts self.now → Fits (heap ts self.now) result }
     {
         Rv::Obj(ObjRef {
@@ -66,14 +67,14 @@ impl Scope {
     /// Whether two values are the same: primitives by value, objects by identity, frozen containers by number, `Undefined`
     /// with `Undefined`, and values of different kinds never.
     pub fn same(&self, a: &Rv, b: &Rv) -> bool
-        ensures { result ≡ spec.same a.now b.now }
+        ensures { result ≡ same a.now b.now }
     {
         a.same(b)
     }
 
     /// Whether the value is no reference of another scope.
     pub fn owns(&self, v: &Rv) -> bool
-        ensures { (ts : List Tree) → result ≡ not (is_foreign (heap ts self.now) v.now) }
+        ensures { (ts : List Tree) → result ≡ spec.owns (heap ts self.now) v.now }
     {
         match v {
             Rv::Obj(object) => object.scope == self.number,
@@ -122,7 +123,10 @@ impl Scope {
     }
 
     /// How the containers inside an untouched draft are given out.
-    fn given(&self, name: u64) -> Given {
+    fn given(&self, name: u64) -> Given
+        requires { name < self.now.drafts }
+        ensures { result ≡ Given.From (record { scope = self.now.number; slot = name + 1 }) }
+    {
         Given::From(ObjRef {
             scope: self.number,
             slot: name + 1,

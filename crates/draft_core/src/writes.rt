@@ -1,16 +1,16 @@
 //! Calls that write one object: each makes at most that object's table.
-ghost use Rattle.std.specs.Prelude.{◌≡◌, ◌≢◌, ◌<◌, ◌≤◌, IsTrue, None, Some, true, false, length};
+ghost use Rattle.std.specs.Prelude.{◌≡◌, ◌≢◌, ◌<◌, ◌≤◌, ◌+◌, Some};
 ghost use Rattle.value_model.specs.declared.words.Kind.TheVariants as kind;
 ghost use Rattle.run_heap.specs.Answers.{Does, Leaves};
-ghost use Rattle.run_heap.specs.Heap.{Heap};
 ghost use Rattle.run_heap.specs.Operations as spec;
 ghost use Rattle.run_heap.specs.Operations.{rewrite, table_of};
-ghost use Rattle.run_heap.specs.Sound.{Owned, IsObject, IsStored, AllStored, Grows};
+ghost use Rattle.run_heap.specs.Sound.{Owned, IsObject, AllStored, Grows};
 ghost use Rattle.draft_core.specs.Seen.{heap, Stands};
-ghost use Rattle.draft_core.specs.Writes.{MayStand, slots, AtMost};
+ghost use Rattle.draft_slots.specs.Looks.{changed, MayChange};
+ghost use Rattle.draft_core.specs.Writes.{MayStand, KeepsTable, slots};
 
 use crate::scope::Scope;
-use draft_slots::{Change, rewrite};
+use draft_slots::Change;
 use node_store::Store;
 use run_heap::{DraftFault, Rv};
 use std::alloc::{AllocError, Global};
@@ -72,9 +72,9 @@ impl Scope {
         requires object { IsObject (heap store.now self.old) of.now }
         requires list { spec.kind_of (heap store.now self.old) of.now ≡ Some kind.List }
         requires ordered { from ≤ to }
-        requires in_range { to ≤ length (table_of (heap store.now self.old) of.now) }
+        requires in_range { to ≤ spec.count (heap store.now self.old) of.now }
         requires stored { AllStored (heap store.now self.old) items.now }
-        ensures done { Leaves result (heap store.now self.old) (heap store.now self.new) (rewrite (spec.spliced from to items.now) (heap store.now self.old) of.now) }
+        ensures done { Leaves result (heap store.now self.old) (heap store.now self.new) (spec.splice_at from to items.now (heap store.now self.old) of.now) }
         ensures stands { Stands store.now self.new }
         ensures grows { Grows (heap store.now self.old) (heap store.now self.new) }
         ensures tables { slots self.new ≤ slots self.old + 1 }
@@ -95,7 +95,7 @@ impl Scope {
         requires object { IsObject (heap store.now self.old) of.now }
         requires keyed { spec.kind_of (heap store.now self.old) of.now ≢ Some kind.List }
         requires stored { MayStand (heap store.now self.old) of.now key.now value }
-        ensures done { Leaves result (heap store.now self.old) (heap store.now self.new) (rewrite (spec.with_key key.now value) (heap store.now self.old) of.now) }
+        ensures done { Leaves result (heap store.now self.old) (heap store.now self.new) (spec.set_key key.now value (heap store.now self.old) of.now) }
         ensures stands { Stands store.now self.new }
         ensures grows { Grows (heap store.now self.old) (heap store.now self.new) }
         ensures tables { slots self.new ≤ slots self.old + 1 }
@@ -113,11 +113,31 @@ impl Scope {
     pub fn empty(&mut self, alloc: Global, store: &Store, of: &Rv) -> Result<(), AllocError>
         requires stands { Stands store.now self.old }
         requires object { IsObject (heap store.now self.old) of.now }
-        ensures done { Leaves result (heap store.now self.old) (heap store.now self.new) (rewrite spec.emptied (heap store.now self.old) of.now) }
+        ensures done { Leaves result (heap store.now self.old) (heap store.now self.new) (spec.empty (heap store.now self.old) of.now) }
         ensures stands { Stands store.now self.new }
         ensures grows { Grows (heap store.now self.old) (heap store.now self.new) }
         ensures tables { slots self.new ≤ slots self.old + 1 }
     {
         self.change(alloc, store, of, Change::Clear)
+    }
+
+    /// Makes a change of an object's table.
+    fn change(
+        &mut self,
+        alloc: Global,
+        store: &Store,
+        of: &Rv,
+        change: Change,
+    ) -> Result<(), AllocError>
+        requires stands { Stands store.now self.old }
+        requires object { IsObject (heap store.now self.old) of.now }
+        requires may { MayChange change (table_of (heap store.now self.old) of.now) }
+        requires table { KeepsTable (heap store.now self.old) of.now (changed change) }
+        ensures done { Leaves result (heap store.now self.old) (heap store.now self.new) (rewrite (changed change.entry) (heap store.now self.old) of.now) }
+        ensures stands { Stands store.now self.new }
+        ensures grows { Grows (heap store.now self.old) (heap store.now self.new) }
+        ensures tables { slots self.new ≤ slots self.old + 1 }
+    {
+        Err(AllocError)
     }
 }

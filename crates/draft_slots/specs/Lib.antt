@@ -1,3 +1,4 @@
+pub mod LookFacts
 pub mod Looks
 pub mod Nodes
 pub mod Tables

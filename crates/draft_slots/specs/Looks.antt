@@ -15,7 +15,7 @@ use Rattle.run_heap.specs.declared.value.Given.{Given}
 use Rattle.run_heap.specs.declared.value.Given.TheVariants as given
 use Rattle.run_heap.specs.declared.content.Content.{Content}
 use Rattle.run_heap.specs.Heap.{given_content}
-use Rattle.run_heap.specs.Operations.{Rows, rows_of, without, set_element, spliced, emptied}
+use Rattle.run_heap.specs.Operations.{Rows, rows_of, value_at, without, set_element, spliced, emptied}
 use Rattle.run_heap.specs.Sound.{ascends, all_stand}
 use Rattle.draft_slots.specs.declared.change.Change.{Change}
 use Rattle.draft_slots.specs.declared.change.Change.TheVariants as change
@@ -32,15 +32,24 @@ abbrev pub Fit : Given → Tree → Type 0
 Fit given.Frozen t = ⊤
 Fit (given.From r) t = r.slot + containers_in (branches_of t) < 2 ^ 64
 
+-- so does the next name after so many
+abbrev pub GivenFits : Given → ℕ → Type 0
+GivenFits given.Frozen n = ⊤
+GivenFits (given.From r) n = r.slot + n < 2 ^ 64
+
 -- what a look needs of the store, and of an object's own table
 abbrev pub IsLook : List Tree → Look → Type 0
 IsLook ts (Own c) = IsTrue (ascends c.now.kind c.now.table)
-IsLook ts (Node id g) = IsNumber ts id × Fit g (tree_at ts id)
+IsLook ts (Node id g) = IsStore ts × IsNumber ts id × Fit g (tree_at ts id)
 
 -- the kind of a content that is there
 abbrev pub kind_in : Option Content → Kind
 kind_in None = kind.Obj
 kind_in (Some c) = c.kind
+
+-- the value of an entry, as a call answers it
+abbrev pub IsValueAt : ℕ → Option Content → Rv → Type 0
+IsValueAt i c v = value_at i (rows_of c) ≡ Some v
 
 -- ---- changes of one table
 abbrev pub changed : Change → Rows → Rows

@@ -27,7 +27,7 @@ pub enum Change<'a> {
 /// Makes the change, and sets the object's mark where its table differs. After want of memory the object is as before.
 pub fn rewrite(alloc: Global, content: &mut Content, change: Change) -> Result<(), AllocError>
     requires { MayChange change content.old.table }
-    ensures ok { OnOk result (content.new ≡ rewritten (changed change content.old.table) content.old) }
+    ensures ok { OnOk result (content.new ≡ rewritten (changed change.entry content.old.table) content.old) }
     ensures err { OnErr result (content.new ≡ content.old) }
 {
     let differs = change_table(alloc, &mut content.table, change)?;
@@ -37,7 +37,7 @@ pub fn rewrite(alloc: Global, content: &mut Content, change: Change) -> Result<(
 
 fn change_table(alloc: Global, table: &mut Table, change: Change) -> Result<bool, AllocError>
     requires { MayChange change table.old }
-    ensures { Leaves result table.old table.new (changed change table.old) }
+    ensures { Leaves result table.old table.new (changed change.entry table.old) }
 {
     match change {
         Change::Set(key, value) => set_key(table, key, value),
