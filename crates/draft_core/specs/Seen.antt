@@ -14,8 +14,8 @@ use Rattle.run_heap.specs.Heap.{Heap, copied}
 use Rattle.run_heap.specs.Operations.{table_of, value_at, source}
 use Rattle.run_heap.specs.Sound.{IsSound}
 use Rattle.draft_core.specs.declared.scope.Scope.{Scope}
-use Rattle.draft_core.specs.declared.reads.Peek.{Peek}
-use Rattle.draft_core.specs.declared.reads.Peek.TheVariants.{Read, Untouched}
+use Rattle.draft_slots.specs.declared.look.Peek.{Peek}
+use Rattle.draft_slots.specs.declared.look.Peek.TheVariants.{Read, Untouched}
 
 -- a draft that was written has a table of its own, any other is its place in the opening state; later objects are kept in the
 -- order of their names

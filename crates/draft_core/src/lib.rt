@@ -10,8 +10,8 @@ mod reads;
 mod scope;
 mod writes;
 
+pub use draft_slots::Peek;
 pub use mint::{ScopeMint, ScopeTicket};
 pub use node_store::{Cell, Kind, NodeId, Store};
-pub use reads::Peek;
 pub use run_heap::{DraftFault, ObjRef, Rv};
 pub use scope::Scope;

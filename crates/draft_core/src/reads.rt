@@ -13,21 +13,12 @@ ghost use Rattle.run_heap.specs.Values.{same};
 ghost use Rattle.draft_core.specs.Seen.{heap, Stands, IsPeek};
 
 use crate::scope::Scope;
-use draft_slots::Look;
+use draft_slots::Peek;
 use node_store::{Cell, Kind, NodeId, Store};
 use run_heap::{DraftFault, Rv};
 use std::alloc::{AllocError, Global};
 use value_model::Key;
 use values::Path;
-
-/// A value as it is kept.
-#[derive(Drop)]
-pub enum Peek<'a> {
-    /// A value of an object with a table of its own.
-    Read(&'a Rv),
-    /// An entry of a node: its container has no table of its own.
-    Untouched(&'a Cell),
-}
 
 impl Scope {
     /// An object's value by a text, a list's element by an integer; `Undefined` where there is none. `TypeMismatch` for another
@@ -181,8 +172,7 @@ impl Scope {
         ensures { IsPeek (heap store.now self.now) of.now i result }
     {
         match self.look(store, of) {
-            Some(Look::Own(content)) => Peek::Read(&content.table.as_slice()[i].1),
-            Some(Look::Node(id, _)) => Peek::Untouched(store.cell(id, i)),
+            Some(look) => look.peek(store, i),
             None => unreachable!(),
         }
     }

@@ -1,4 +1,4 @@
-ghost use Rattle.std.specs.Prelude.{◌≡◌, ◌<◌, ◌≤◌, ◌&&◌, not, false, List, IfOk, MatchOption, None, Some, length};
+ghost use Rattle.std.specs.Prelude.{◌≡◌, ◌<◌, ◌≤◌, ◌+◌, false, List, IfOk, MatchOption, None, length};
 ghost use Rattle.numbered.specs.Store.{IsNumber, tree_at};
 ghost use Rattle.numbered.specs.Tree.{Tree};
 ghost use Rattle.node_store.specs.Nodes.{kind_of};

@@ -8,6 +8,6 @@ mod nodes;
 mod table;
 
 pub use change::{Change, rewrite};
-pub use look::Look;
+pub use look::{Look, Peek};
 pub use names::{is_long, is_reserved};
 pub use nodes::node_content;

@@ -8,11 +8,12 @@ ghost use Rattle.run_heap.specs.Operations as spec;
 ghost use Rattle.run_heap.specs.Operations.{rows_of, then_read, value_at};
 ghost use Rattle.run_heap.specs.Values.{same};
 ghost use Rattle.draft_slots.specs.Looks.{looked, IsLook, kind_in};
+ghost use Rattle.draft_slots.specs.Peeks.{IsKept};
 
 use crate::names::is_reserved;
 use crate::nodes::{node_position, node_same, node_value};
 use crate::table::position;
-use node_store::{Kind, NodeId, Store};
+use node_store::{Cell, Kind, NodeId, Store};
 use run_heap::{Content, DraftFault, Given, Rv};
 use std::alloc::{AllocError, Global};
 use value_model::{Key, Safe, Text};
@@ -24,6 +25,15 @@ pub enum Look<'a> {
     Own(&'a Content),
     /// A node, and how the containers in it are given out.
     Node(NodeId, Given),
+}
+
+/// A value as it is kept.
+#[derive(Drop)]
+pub enum Peek<'a> {
+    /// A value of an object with a table of its own.
+    Read(&'a Rv),
+    /// An entry of a node: its container has no table of its own.
+    Untouched(&'a Cell),
 }
 
 impl<'a> Look<'a> {
@@ -83,6 +93,18 @@ impl<'a> Look<'a> {
         match self {
             Look::Own(content) => &content.table.as_slice()[i].0,
             Look::Node(id, _) => store.key(*id, i),
+        }
+    }
+
+    /// The value of an entry as it is kept.
+    pub fn peek(&self, store: &'a Store, i: usize) -> Peek<'a>
+        requires look { IsLook store.now self.now }
+        requires in_range { i < length (rows_of (looked store.now self.now)) }
+        ensures { IsKept store.now self.now i result }
+    {
+        match self {
+            Look::Own(content) => Peek::Read(&content.table.as_slice()[i].1),
+            Look::Node(id, _) => Peek::Untouched(store.cell(*id, i)),
         }
     }
 
