@@ -1,0 +1,71 @@
+//! Calls that make objects.
+ghost use Rattle.std.specs.Prelude.{◌≡◌, ◌+◌, ◌≤◌, List, None};
+ghost use Rattle.numbered.specs.Tree.{Tree};
+ghost use Rattle.value_model.specs.Limits.{value_limit};
+ghost use Rattle.value_model.specs.declared.words.Kind.TheVariants as kind;
+ghost use Rattle.run_heap.specs.Answers.{Does, Makes};
+ghost use Rattle.run_heap.specs.Heap.{next_object};
+ghost use Rattle.run_heap.specs.Operations as spec;
+ghost use Rattle.run_heap.specs.Sound.{Owned, Grows};
+ghost use Rattle.draft_core.specs.Seen.{heap, Stands};
+ghost use Rattle.draft_core.specs.Writes.{slots};
+
+use crate::scope::Scope;
+use node_store::{Kind, Store};
+use run_heap::{DraftFault, Rv};
+use std::alloc::{AllocError, Global};
+use values::Val;
+
+impl Scope {
+    /// A fresh empty literal.
+    pub fn new_of(&mut self, alloc: Global, kind: Kind) -> Result<Rv, AllocError>
+        ensures done { (ts : List Tree) → Stands ts self.old → Makes result (heap ts self.old) (heap ts self.new) (spec.new_of kind (heap ts self.old)) (next_object (heap ts self.old)) }
+        ensures stands { (ts : List Tree) → Stands ts self.old → Stands ts self.new }
+        ensures grows { (ts : List Tree) → Stands ts self.old → Grows (heap ts self.old) (heap ts self.new) }
+        ensures tables { slots self.new ≤ slots self.old + 1 }
+    {
+        Err(AllocError)
+    }
+
+    /// A fresh empty object.
+    pub fn new_object(&mut self, alloc: Global) -> Result<Rv, AllocError>
+        ensures done { (ts : List Tree) → Stands ts self.old → Makes result (heap ts self.old) (heap ts self.new) (spec.new_of kind.Obj (heap ts self.old)) (next_object (heap ts self.old)) }
+        ensures stands { (ts : List Tree) → Stands ts self.old → Stands ts self.new }
+        ensures grows { (ts : List Tree) → Stands ts self.old → Grows (heap ts self.old) (heap ts self.new) }
+        ensures tables { slots self.new ≤ slots self.old + 1 }
+    {
+        self.new_of(alloc, Kind::Obj)
+    }
+
+    /// A fresh empty list.
+    pub fn new_list(&mut self, alloc: Global) -> Result<Rv, AllocError>
+        ensures done { (ts : List Tree) → Stands ts self.old → Makes result (heap ts self.old) (heap ts self.new) (spec.new_of kind.List (heap ts self.old)) (next_object (heap ts self.old)) }
+        ensures stands { (ts : List Tree) → Stands ts self.old → Stands ts self.new }
+        ensures grows { (ts : List Tree) → Stands ts self.old → Grows (heap ts self.old) (heap ts self.new) }
+        ensures tables { slots self.new ≤ slots self.old + 1 }
+    {
+        self.new_of(alloc, Kind::List)
+    }
+
+    /// A fresh list of an object's keys, ascending. `TypeMismatch` for another operand.
+    pub fn keys(&mut self, alloc: Global, store: &Store, of: &Rv) -> Result<Rv, DraftFault>
+        requires stands { Stands store.now self.old }
+        requires owned { Owned (heap store.now self.old) of.now }
+        ensures done { Does result (heap store.now self.old) (heap store.now self.new) (spec.keys (heap store.now self.old) of.now) }
+        ensures stands { Stands store.now self.new }
+        ensures grows { Grows (heap store.now self.old) (heap store.now self.new) }
+        ensures tables { slots self.new ≤ slots self.old + 1 }
+    {
+        Err(DraftFault::Memory)
+    }
+
+    /// Fresh literals of a plain value: its containers get the next names in post-order. After want of memory all is as before.
+    pub fn plain_of(&mut self, alloc: Global, v: &Val) -> Result<Rv, AllocError>
+        requires { value_limit v.now ≡ None }
+        ensures done { (ts : List Tree) → Stands ts self.old → Makes result (heap ts self.old) (heap ts self.new) (spec.with_plain v.now (heap ts self.old)) (spec.plain_value (heap ts self.old) v.now) }
+        ensures stands { (ts : List Tree) → Stands ts self.old → Stands ts self.new }
+        ensures grows { (ts : List Tree) → Stands ts self.old → Grows (heap ts self.old) (heap ts self.new) }
+    {
+        Err(AllocError)
+    }
+}

@@ -1,0 +1,5 @@
+pub mod LookFacts
+pub mod Looks
+pub mod Nodes
+pub mod Peeks
+pub mod Tables

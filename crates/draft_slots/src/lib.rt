@@ -1,0 +1,13 @@
+//! One object of a run: reading and changing its table, and reading a frozen node as an object.
+#![tactic(auto)]
+
+mod change;
+mod look;
+mod names;
+mod nodes;
+mod table;
+
+pub use change::{Change, rewrite};
+pub use look::{Look, Peek};
+pub use names::{is_long, is_reserved};
+pub use nodes::node_content;

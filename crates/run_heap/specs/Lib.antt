@@ -1,0 +1,7 @@
+pub mod Answers
+pub mod Examples
+pub mod Heap
+pub mod Operations
+pub mod Places
+pub mod Sound
+pub mod Values
