@@ -132,7 +132,7 @@ index_or None = negsuc 0
 index_or (Some i) = pos i
 
 abbrev pub index_of : Rv → Heap → Rv → Result ℤ DraftFault
-index_of v h of = read_list (λ xs. index_or (position (same v) xs)) h of (v ∷ [])
+index_of v h of = read_list (λ xs. index_or (position (λ x. same x v) xs)) h of (v ∷ [])
 
 abbrev pub includes : Rv → Heap → Rv → Result Bool DraftFault
-includes v h of = read_list (λ xs. list_any (same v) xs) h of (v ∷ [])
+includes v h of = read_list (λ xs. list_any (λ x. same x v) xs) h of (v ∷ [])
