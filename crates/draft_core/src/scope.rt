@@ -124,7 +124,7 @@ impl Scope {
     }
 
     /// How the containers inside an untouched draft are given out.
-    fn given(&self, name: u64) -> Given
+    pub(crate) fn given(&self, name: u64) -> Given
         requires { name < self.now.drafts }
         ensures { result ≡ Given.From (record { scope = self.now.number; slot = name + 1 }) }
     {
