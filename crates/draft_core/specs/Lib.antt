@@ -1,2 +1,5 @@
+pub mod Changed
+pub mod Kept
 pub mod Seen
+pub mod Tables
 pub mod Writes

@@ -8,6 +8,7 @@ mod fresh;
 mod mint;
 mod reads;
 mod scope;
+mod tables;
 mod writes;
 
 pub use draft_slots::Peek;

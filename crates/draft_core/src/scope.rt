@@ -43,6 +43,7 @@ impl Scope {
         ensures heap { IfOk result (λ s. heap store.now s ≡ opened ticket store.now root) }
         ensures stands { IfOk result (λ s. Stands store.now s) }
     {
+        let _from_one = root.get();
         Ok(Scope {
             number: ticket.number(),
             root,
@@ -123,7 +124,7 @@ impl Scope {
     }
 
     /// How the containers inside an untouched draft are given out.
-    fn given(&self, name: u64) -> Given
+    pub(crate) fn given(&self, name: u64) -> Given
         requires { name < self.now.drafts }
         ensures { result ≡ Given.From (record { scope = self.now.number; slot = name + 1 }) }
     {

@@ -138,6 +138,12 @@ impl Scope {
         ensures grows { Grows (heap store.now self.old) (heap store.now self.new) }
         ensures tables { slots self.new ≤ slots self.old + 1 }
     {
-        Err(AllocError)
+        match of {
+            Rv::Obj(object) => {
+                self.open(alloc, store, object.slot)?;
+                self.rewrite_at(alloc, object.slot, change)
+            }
+            _ => unreachable!(),
+        }
     }
 }

@@ -1,8 +1,8 @@
 -- What every heap of a run keeps.
 use Rattle.std.proofs.Common.{◌≡◌, ◌≢◌, ℕ, zero, suc, ◌+◌, ◌-◌, ◌<◌, ◌≤◌, List, [], ◌∷◌, ◌++◌, length, map, take, refl, ap, sym, ◌∙◌, subst, arith, Bool, true, false, not, Less, Equal, Greater}
-use Rattle.std.specs.Prelude.{◌&&◌, ◌||◌, ◌==◌, ◌^◌, nat_lt, if◌then◌else◌, Option, Some, None, option_map, IsTrue, slice_get, ⊤}
-use Rattle.std.specs.FinMap.Entries.{is_sorted, below_all}
-use Rattle.std.specs.Ordering.{is_eq, is_lt}
+use Rattle.std.specs.Prelude.{◌&&◌, ◌||◌, ◌==◌, ◌^◌, nat_lt, if◌then◌else◌, Option, Some, None, option_map, IsTrue, slice_get, ⊤, cond, pos, negsuc, Result, Ok, Err}
+use Rattle.std.specs.FinMap.Entries.{is_sorted, below_all, find}
+use Rattle.std.specs.Ordering.{is_eq, is_lt, eq_by_cmp}
 use Rattle.std.specs.declared.cmp.Ordering.{Ordering}
 use Rattle.std.proofs.lemmas.Cmp.{tied_itself}
 use Rattle.value_model.specs.declared.key.Key.{Key}
@@ -17,8 +17,8 @@ use Rattle.value_model.specs.Places.{ascends_at}
 use Rattle.value_model.specs.Plain as plain_value
 use Rattle.value_model.specs.Plain.{Plain, Entries, list_of}
 use Rattle.value_model.specs.Well.{well, all_fit}
-use Rattle.numbered.specs.Laws.{place_of, well_at, accepted_at}
-use Rattle.numbered.specs.Store.{IsNumber, IsStore, IsOf, tree_at}
+use Rattle.numbered.specs.Laws.{place_of, well_at, accepted_at, children_of}
+use Rattle.numbered.specs.Store.{IsNumber, IsStore, IsOf, AllOf, tree_at}
 use Rattle.numbered.specs.Tree.{Tree, Branches, prim, node, none, branch, plain, plains, containers, containers_in, place, place_in}
 use Rattle.run_heap.specs.declared.value.ObjRef.{ObjRef}
 use Rattle.run_heap.specs.declared.value.Rv.{Rv}
@@ -26,9 +26,11 @@ use Rattle.run_heap.specs.declared.value.Rv.TheVariants.{Undefined, Prim, Obj, F
 use Rattle.run_heap.specs.declared.value.Given.{Given}
 use Rattle.run_heap.specs.declared.value.Given.TheVariants as given
 use Rattle.run_heap.specs.declared.content.Content.{Content}
-use Rattle.run_heap.specs.Heap.{Heap, drafts, after, given_value, given_table, given_content, copied, opening, opened, rewritten, update, with_objects}
-use Rattle.run_heap.specs.Operations.{Rows, source_in}
-use Rattle.run_heap.specs.Sound.{IsStored, RowsStored, may_stand, all_stand, ascends, IsTable, IsContent, IsOpenedAs, HasSource, IsSound, Keeps, Grows}
+use Rattle.run_heap.specs.declared.fault.DraftFault.{DraftFault}
+use Rattle.run_heap.specs.declared.fault.DraftFault.TheVariants as fault
+use Rattle.run_heap.specs.Heap.{Heap, drafts, after, given_value, given_table, given_content, copied, opening, opened, shown, is_foreign, rewritten, update, with_objects}
+use Rattle.run_heap.specs.Operations.{Rows, source_in, or_undefined, value_at, entry, then_read, read, get}
+use Rattle.run_heap.specs.Sound.{IsStored, Fits, Owned, RowsStored, may_stand, all_stand, ascends, IsTable, IsContent, IsOpenedAs, HasSource, IsSound, Keeps, Grows}
 use Rattle.run_heap.specs.Values.{same, same_tables}
 
 left_true : (a b : Bool) → (a && b) ≡ true → a ≡ true
@@ -124,12 +126,12 @@ mutual
   ] refl
 
 mutual
-  no_place : (n : ℕ) (t : Tree) → containers t ≤ n → place n t ≡ None
+  pub no_place : (n : ℕ) (t : Tree) → containers t ≤ n → place n t ≡ None
   no_place n (prim k) l = refl
   no_place zero (node id of es) l = absurd (omega arith)
   no_place (suc n) (node id of es) l = no_place_in n es (omega arith)
 
-  no_place_in : (n : ℕ) (es : Branches) → containers_in es ≤ n → place_in n es ≡ None
+  pub no_place_in : (n : ℕ) (es : Branches) → containers_in es ≤ n → place_in n es ≡ None
   no_place_in n none l = refl
   no_place_in n (branch k v es) l =
       let no : nat_lt n (containers v) ≡ false = grind (arith, l) in
@@ -397,3 +399,76 @@ grows_objects h cs s = record {
   more = omega arith;
   keeps = λ n. by_age (Keeps (h.object n)) h cs n (λ m. keeps_refl (h.object n)) (λ m. rw (s.fresh n m) tt);
 }
+
+-- ---- what a value of a sound heap shows may be an object's content
+stored_frozen : (h : Heap) (es : Branches) → AllOf h.states es → RowsStored h (given_table given.Frozen es)
+stored_frozen h none a = tt
+stored_frozen h (branch k (prim j) es) a = (tt, stored_frozen h es a.1)
+stored_frozen h (branch k (node id of ds) es) a = (a.0.0, stored_frozen h es a.1)
+
+table_frozen : (h : Heap) (u : Tree) → IsStore h.states → IsOf h.states u → IsContent h (given_content given.Frozen u)
+table_frozen h (prim k) s o = tt
+table_frozen h (node id of es) s o =
+    let limits = subst (λ (t : Tree). state_limit (plain t) ≡ None) o.1 (accepted_at h.states id s o.0) in
+    let w = subst (λ (t : Tree). well (plain t) ≡ true) o.1 (well_at h.states id s o.0) in
+    let v = plain_value.node of (plains es) in
+    record {
+      ascends = ascends_given of given.Frozen es (left_true _ _ (left_true _ _ w));
+      stand = stand_given of given.Frozen es (right_true _ _ (left_true _ _ w)) (value_long v limits) (value_reserved v limits);
+      stored = stored_frozen h es (children_of h.states id of es s o);
+    }
+
+pub shown_content : (h : Heap) (v : Rv) → IsSound h → Owned h v → IsContent h (shown h v)
+shown_content h Undefined s o = tt
+shown_content h (Prim k) s o = tt
+shown_content h (Obj r) s o = s.tables r.slot
+shown_content h (Frozen id) s o = table_frozen h (tree_at h.states id) s.store (of_root h.states id s.store o)
+
+pub fits_stored : (h : Heap) (v : Rv) → IsStored h v → Fits h v
+fits_stored h Undefined s = tt
+fits_stored h (Prim k) s = s
+fits_stored h (Obj r) s = s
+fits_stored h (Frozen id) s = s
+
+found_fits : (h : Heap) (k : Key) (t : Rows) → RowsStored h t → Fits h (or_undefined (find key_cmp k t))
+found_fits h k [] a = tt
+found_fits h k (e ∷ t) a = elim (eq_by_cmp key_cmp k e.0) as (λ b. Fits h (or_undefined (cond b (Some e.1) (find key_cmp k t)))) [
+  | true ↦ fits_stored h e.1 a.0
+  | false ↦ found_fits h k t a.1
+]
+
+pub value_stored : (h : Heap) (i : ℕ) (t : Rows) (v : Rv) → RowsStored h t → value_at i t ≡ Some v → IsStored h v
+value_stored h i [] v a e = absurd (cc)
+value_stored h zero (x ∷ t) v a e = let q : x.1 ≡ v = cc in subst (IsStored h) q a.0
+value_stored h (suc i) (x ∷ t) v a e = value_stored h i t v a.1 e
+
+element_fits : (h : Heap) (i : ℕ) (t : Rows) → RowsStored h t → Fits h (or_undefined (value_at i t))
+element_fits h i [] a = tt
+element_fits h zero (e ∷ t) a = fits_stored h e.1 a.0
+element_fits h (suc i) (e ∷ t) a = element_fits h i t a.1
+
+entry_fits : (h : Heap) (k : Key) (of : Kind) (t : Rows) (v : Rv) → RowsStored h t → entry k of t ≡ Ok v → Fits h v
+entry_fits h (key.Text s) kind.Obj t v a = elim (is_reserved_text s) as (λ b. (if b then Err fault.ReservedKey else Ok (or_undefined (find key_cmp (key.Text s) t))) ≡ Ok v → Fits h v) [
+  | true ↦ λ e. absurd (cc)
+  | false ↦ λ e. let q : or_undefined (find key_cmp (key.Text s) t) ≡ v = cc in subst (Fits h) q (found_fits h (key.Text s) t a)
+]
+entry_fits h (key.Int (pos i)) kind.List t v a = λ e. let q : or_undefined (value_at i t) ≡ v = cc in subst (Fits h) q (element_fits h i t a)
+entry_fits h (key.Int (negsuc i)) kind.List t v a = λ e. let q : Undefined ≡ v = cc in subst (Fits h) q tt
+entry_fits h _ _ t v a = λ e. absurd (cc)
+
+pub shown_entry : (h : Heap) (k : Key) (c : Option Content) (v : Rv) → IsContent h c → then_read (λ d. entry k d.kind d.table) c ≡ Ok v → Fits h v
+shown_entry h k None v a e = absurd (cc)
+shown_entry h k (Some c) v a e = entry_fits h k c.kind c.table v a.stored e
+
+-- ---- a call on a value of this scope, or of another
+pub read_foreign : {X : Type 0} (f : Content → Result X DraftFault) (h : Heap) (v : Rv) → is_foreign h v ≡ true → read f h v [] ≡ Err fault.Revoked
+read_foreign f h v e = rw e refl
+
+pub read_ours : {X : Type 0} (f : Content → Result X DraftFault) (h : Heap) (v : Rv) → is_foreign h v ≡ false → read f h v [] ≡ then_read f (shown h v)
+read_ours f h v e = rw e refl
+
+pub get_fits : (h : Heap) (k : Key) (of v : Rv) → IsSound h → Owned h of → get k h of ≡ Ok v → Fits h v
+get_fits h k of v s o = elim (is_foreign h of) as (λ b. (if b || false then Err fault.Revoked else then_read (λ d. entry k d.kind d.table) (shown h of)) ≡ Ok v → Fits h v) [
+  | true ↦ λ e. absurd (cc)
+  | false ↦ λ e. shown_entry h k (shown h of) v (shown_content h of s o) e
+]
