@@ -5,6 +5,7 @@
 #![tactic(auto)]
 
 mod fresh;
+mod lists;
 mod mint;
 mod reads;
 mod scope;

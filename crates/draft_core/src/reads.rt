@@ -1,5 +1,5 @@
 //! Calls that read. None of them makes an object's table.
-ghost use Rattle.std.specs.Prelude.{◌≡◌, ◌≢◌, ◌<◌, ◌≤◌, List, length, IfOk, IfSome, Some, false};
+ghost use Rattle.std.specs.Prelude.{◌≡◌, ◌^◌, ◌≢◌, ◌<◌, ◌≤◌, List, length, IfOk, IfSome, Some, false};
 ghost use Rattle.node_store.specs.Nodes.{cells_of};
 ghost use Rattle.numbered.specs.Store.{tree_at};
 ghost use Rattle.numbered.specs.Tree.{Tree, containers};
@@ -108,7 +108,8 @@ impl Scope {
     pub fn count(&self, store: &Store, of: &Rv) -> usize
         requires stands { Stands store.now self.now }
         requires container { IsContainer (heap store.now self.now) of.now }
-        ensures { result ≡ spec.count (heap store.now self.now) of.now }
+        ensures value { result ≡ spec.count (heap store.now self.now) of.now }
+        ensures small { result < 2 ^ 63 }
     {
         match self.look(store, of) {
             Some(look) => look.count(store),

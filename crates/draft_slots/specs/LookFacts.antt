@@ -11,10 +11,12 @@ use Rattle.value_model.specs.Limits.{is_reserved_text}
 use Rattle.value_model.specs.declared.words.Kind.{Kind}
 use Rattle.value_model.specs.declared.words.Kind.TheVariants as kind
 use Rattle.value_model.specs.Order.{key_cmp}
-use Rattle.numbered.specs.Laws.{before_le}
+use Rattle.value_model.specs.Plain as plain_value
+use Rattle.value_model.specs.Plain.{Plain, values, values_in}
+use Rattle.numbered.specs.Laws.{before_le, values_at}
 use Rattle.numbered.specs.Store.{IsNumber, IsStore, tree_at}
-use Rattle.numbered.specs.Tree.{Tree, prim, node, branches_of, containers_in, before}
-use Rattle.node_store.specs.Nodes.{kind_of, cells_of, cell_of}
+use Rattle.numbered.specs.Tree.{Tree, Branches, prim, node, none, branch, plain, plains, branches_of, containers_in, before}
+use Rattle.node_store.specs.Nodes.{kind_of, cells_of, cells_in, cell_of}
 use Rattle.node_store.specs.Tables.{cell_again}
 use Rattle.node_store.specs.declared.node.Cell.TheVariants as cell
 use Rattle.run_heap.specs.declared.value.Given.{Given}
@@ -38,6 +40,22 @@ kind_node g (node id of es) = refl
 
 pub count_node : (g : Given) (t : Tree) → length (rows_of (given_content g t)) ≡ length (cells_of t)
 count_node g t = ap length (rows_node g t) ∙ table_length g (branches_of t)
+
+-- a node has few cells
+some_value : (v : Plain) → 1 ≤ values v
+some_value (plain_value.prim k) = omega arith
+some_value (plain_value.node of es) = omega arith
+
+cells_le_values : (es : Branches) → length (cells_in es) ≤ values_in (plains es)
+cells_le_values none = omega arith
+cells_le_values (branch k v es) = omega (arith, some_value (plain v), cells_le_values es)
+
+cells_below : (t : Tree) → length (cells_of t) ≤ values (plain t)
+cells_below (prim k) = omega arith
+cells_below (node id of es) = omega (arith, cells_le_values es)
+
+pub few_cells : (ts : List Tree) (id : ℕ) → IsStore ts → IsNumber ts id → length (cells_of (tree_at ts id)) ≤ 2 ^ 20
+few_cells ts id s h = omega (arith, cells_below (tree_at ts id), values_at ts id s h)
 
 source_cell : (g : Given) (t : Tree) (id : ℕ) → cell_of t ≡ cell.Node id → Some id ≡ source_in (given_content g t)
 source_cell g (prim k) id h = absurd (cc)

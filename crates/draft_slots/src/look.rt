@@ -1,5 +1,5 @@
 //! Reading a container: an object's own content, or a node as the store holds it, of which nothing is copied.
-ghost use Rattle.std.specs.Prelude.{◌≡◌, ◌≢◌, ◌<◌, IfOk, IfSome, Some, List, length, slice_get};
+ghost use Rattle.std.specs.Prelude.{◌^◌, ◌≡◌, ◌≢◌, ◌<◌, IfOk, IfSome, Some, List, length, slice_get};
 ghost use Rattle.value_model.specs.declared.key.Key.TheVariants as key_model;
 ghost use Rattle.value_model.specs.declared.words.Kind.TheVariants as kind;
 ghost use Rattle.numbered.specs.Tree.{Tree};
@@ -51,7 +51,8 @@ impl<'a> Look<'a> {
     /// How many entries it has.
     pub fn count(&self, store: &Store) -> usize
         requires { IsLook store.now self.now }
-        ensures { result ≡ length (rows_of (looked store.now self.now)) }
+        ensures value { result ≡ length (rows_of (looked store.now self.now)) }
+        ensures small { result < 2 ^ 63 }
     {
         match self {
             Look::Own(content) => content.table.as_slice().len(),
