@@ -7,5 +7,10 @@
 mod elements;
 mod ends;
 mod guards;
+mod indexes;
+mod ranges;
+mod search;
 
 pub use ends::{pop, push, shift, unshift};
+pub use ranges::{reverse, set_length, slice, splice};
+pub use search::{includes, index_of};

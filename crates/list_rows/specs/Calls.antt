@@ -1,7 +1,7 @@
 -- What the calls on lists answer and leave: the methods of ECMA-262's Array, as functions on a list's elements. A list has no
 -- holes and nothing undefined in it. Where several refusals hold, the first in the order of `DraftFault` is answered.
 use Rattle.std.specs.Prelude as std
-use Rattle.std.specs.Prelude.{ℕ, ◌+◌, ◌-◌, ℤ, pos, negsuc, min, List, [], ◌∷◌, ◌++◌, length, map, take, drop, slice_get, slice_range, Option, Some, None, Bool, not, Result, Ok, Err}
+use Rattle.std.specs.Prelude.{ℕ, ◌+◌, ◌-◌, ℤ, pos, negsuc, min, List, [], ◌∷◌, ◌++◌, length, map, take, drop, slice_get, slice_range, Option, Some, None, Bool, true, not, nat_lt, Result, Ok, Err}
 use Rattle.std.specs.List as list
 use Rattle.std.specs.List.{list_any, position}
 use Rattle.run_heap.specs.declared.value.Rv.{Rv}
@@ -9,7 +9,7 @@ use Rattle.run_heap.specs.declared.content.Content.{Content}
 use Rattle.run_heap.specs.declared.fault.DraftFault.{DraftFault}
 use Rattle.run_heap.specs.declared.fault.DraftFault.TheVariants as fault
 use Rattle.run_heap.specs.Heap.{Heap}
-use Rattle.run_heap.specs.Operations.{Rows, Edit, unless, read, edited, item, is_list, is_undefined, or_undefined, is_hole, then_list}
+use Rattle.run_heap.specs.Operations.{Rows, Edit, unless, read, edited, item, is_list, is_undefined, or_undefined, then_list}
 use Rattle.run_heap.specs.Values.{same}
 
 -- the elements of a list's table
@@ -37,10 +37,15 @@ removed None n = n
 removed (Some (pos k)) n = min k n
 removed (Some (negsuc k)) n = 0
 
--- a length to which a list is cut
-abbrev pub cut_at : ℤ → ℕ
-cut_at (pos n) = n
-cut_at (negsuc n) = 0
+-- a length that a list of so many elements can't be cut to: it is negative, or past the end
+abbrev pub is_past : ℤ → ℕ → Bool
+is_past (pos k) n = nat_lt n k
+is_past (negsuc k) n = true
+
+-- a length as a number of elements; a negative one is refused before
+abbrev pub natural : ℤ → ℕ
+natural (pos n) = n
+natural (negsuc n) = 0
 
 -- ---- calls that write a list
 -- the elements that it has then, and the answer, as the table and the answer
@@ -102,12 +107,15 @@ abbrev pub splice : ℤ → Option ℤ → List Rv → Heap → Rv → Result (H
 splice start count vs h of = answer_list (edited (on_list (spliced_at start count vs)) h of vs)
 
 -- the other way round
+abbrev pub turned : List Rv → Result (List Rv × Unit {0}) DraftFault
+turned xs = Ok (std.reverse xs, tt)
+
 abbrev pub reverse : Heap → Rv → Result (Heap × Unit {0}) DraftFault
-reverse h of = edited (on_list (λ xs. Ok (std.reverse xs, tt))) h of []
+reverse h of = edited (on_list turned) h of []
 
 -- the first n elements, where n is at most the length
 abbrev pub cut_to : ℤ → List Rv → Result (List Rv × Unit {0}) DraftFault
-cut_to n xs = unless ((is_hole n (items xs), fault.Hole) ∷ []) (Ok (take (cut_at n) xs, tt))
+cut_to n xs = unless ((is_past n (length xs), fault.Hole) ∷ []) (Ok (take (natural n) xs, tt))
 
 abbrev pub set_length : ℤ → Heap → Rv → Result (Heap × Unit {0}) DraftFault
 set_length n h of = edited (on_list (cut_to n)) h of []

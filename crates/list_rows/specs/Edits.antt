@@ -1,12 +1,12 @@
 -- What replacing a range of a list's elements makes of the list.
-use Rattle.std.proofs.Common.{◌≡◌, ℕ, zero, suc, ◌<◌, ◌≤◌, ◌+◌, ◌-◌, min, List, [], ◌∷◌, ◌++◌, length, map, take, drop, reverse, refl, ap, sym, ◌∙◌, subst, arith, Bool, true, false}
+use Rattle.std.proofs.Common.{◌≡◌, ℕ, zero, suc, ◌<◌, ◌≤◌, ◌+◌, ◌-◌, min, List, [], ◌∷◌, ◌++◌, length, map, take, drop, reverse, refl, ap, sym, ◌∙◌, subst, arith, Bool, true, false, cond}
 use Rattle.std.proofs.Math.Seq.{drop-length, take-length}
 use Rattle.std.proofs.lemmas.List.{append-nil, append_assoc, map-append, length-map}
 use Rattle.std.proofs.lemmas.Option.{slice_get-map}
-use Rattle.std.specs.Prelude.{Option, Some, None, option_map, Result, Ok, Err, slice_get, slice_range, IsTrue, ℤ}
+use mathlib.Core.List.{reverse_aux}
+use Rattle.std.specs.Prelude.{pos, negsuc, ◌≤ℤ◌, ◌<ℤ◌, unsigned_abs, IfSome, Option, Some, None, is_some, option_map, Result, Ok, Err, nat_lt, slice_get, slice_range, IsTrue, ℤ}
 use Rattle.std.specs.List as list
-use Rattle.std.specs.List.{list_any, take-map, drop-map}
-use Rattle.value_model.specs.declared.key.Key.{Key}
+use Rattle.std.specs.List.{list_any, position, position_or_len, take-map, drop-map}
 use Rattle.value_model.specs.declared.key.Key.TheVariants as key
 use Rattle.value_model.specs.declared.words.Kind.{Kind}
 use Rattle.value_model.specs.declared.words.Kind.TheVariants as kind
@@ -14,11 +14,13 @@ use Rattle.run_heap.specs.declared.value.Rv.{Rv}
 use Rattle.run_heap.specs.declared.value.Rv.TheVariants.{Undefined, Prim, Obj, Frozen}
 use Rattle.run_heap.specs.declared.content.Content.{Content}
 use Rattle.run_heap.specs.declared.fault.DraftFault.{DraftFault}
-use Rattle.run_heap.specs.Heap.{Heap, shown, write_table}
-use Rattle.run_heap.specs.Operations.{Rows, edited, is_undefined, item, kind_of, or_undefined, rewrite, rewrite_shown, rows_of, splice_at, spliced, table_of, value_at}
+use Rattle.run_heap.specs.declared.fault.DraftFault.TheVariants as fault
+use Rattle.run_heap.specs.Heap.{Heap, fresh, next_object, shown, with_object, write_table}
+use Rattle.run_heap.specs.Operations.{Rows, edited, is_undefined, item, kind_of, or_undefined, rewrite_shown, rows_of, splice_at, spliced, table_of, then_list, value_at}
 use Rattle.run_heap.specs.Sound.{IsObject, IsSound, IsContent, IsStored, AllStored, all_stand}
-use Rattle.list_rows.specs.Calls.{elements, items, on_list, pushed, unshifted, popped, shifted}
-use Rattle.list_rows.specs.Guards.{elements_of, with_elements, IsWritable, row_done}
+use Rattle.run_heap.specs.Values.{same}
+use Rattle.list_rows.specs.Calls.{elements, items, on_list, relative, end_at, removed, is_past, natural, pushed, unshifted, popped, shifted, turned, cut_to, spliced_at, answer_list, splice, sliced, slice, index_or, index_of, includes}
+use Rattle.list_rows.specs.Guards.{elements_of, with_elements, readable, writable, IsReadable, IsWritable, row_done, row_refused, row_stopped, read_done, read_refused}
 
 -- ---- tables of lists
 items_elements : (t : Rows) → IsTrue (all_stand kind.List t) → items (elements t) ≡ t
@@ -84,6 +86,9 @@ module _ {X : Type 0} where
   pub splice_all : (xs vs : List X) (n : ℕ) → n ≡ length xs → list.splice xs 0 n vs ≡ vs
   splice_all xs vs n p = rw p (rw (drop-length xs) (append-nil vs))
 
+  pub range_all : (xs : List X) (n : ℕ) → n ≡ length xs → slice_range xs 0 n ≡ xs
+  range_all xs n p = let all : n - 0 ≡ length xs = omega (arith, p) in rw all (take-length xs)
+
   pub range_end : (xs : List X) (i to : ℕ) → to ≤ i → slice_range xs i to ≡ []
   range_end xs i to h = let z : to - i ≡ 0 = omega arith in rw z refl
 
@@ -107,6 +112,27 @@ pub stored_more : (h : Heap) (vs : List Rv) (v : Rv) → AllStored h vs → IsSt
 stored_more h [] v a s = (s, tt)
 stored_more h (w ∷ vs) v a s = (a.0, stored_more h vs v a.1 s)
 
+stored_onto : (h : Heap) (vs ws : List Rv) → AllStored h vs → AllStored h ws → AllStored h (reverse_aux vs ws)
+stored_onto h [] ws a b = b
+stored_onto h (v ∷ vs) ws a b = stored_onto h vs (v ∷ ws) a.1 (a.0, b)
+
+pub stored_reverse : (h : Heap) (vs : List Rv) → AllStored h vs → AllStored h (reverse vs)
+stored_reverse h vs a = stored_onto h vs [] a tt
+
+-- ---- indexes
+pub relative_back : (z : ℤ) (n d : ℕ) → z <ℤ pos 0 → d ≡ unsigned_abs z → n - d ≡ relative z n
+relative_back (pos i) n d l p = absurd (grind (arith, l))
+relative_back (negsuc i) n d l p = let e : d ≡ i + 1 = omega (arith, p) in ap (λ m. n - m) e
+
+pub relative_on : (z : ℤ) (n d : ℕ) → pos 0 ≤ℤ z → d ≡ unsigned_abs z → min d n ≡ relative z n
+relative_on (pos i) n d l p = ap (λ m. min m n) p
+relative_on (negsuc i) n d l p = absurd (grind (arith, l))
+
+-- one more element of a range
+pub one_more : (xs out more : List Rv) (from i to : ℕ) (v : Rv) → out ++ slice_range xs i to ≡ slice_range xs from to → slice_get xs i ≡ Some v → i < to → more ≡ out ++ v ∷ [] → more ++ slice_range xs (i + 1) to ≡ slice_range xs from to
+one_more xs out more from i to v p q l r =
+    rw r (append_assoc out (v ∷ []) (slice_range xs (i + 1) to) ∙ ap (λ ys. out ++ ys) (sym (range_step xs i to v q l)) ∙ p)
+
 -- ---- each call as a range that is replaced
 module _ (xs vs : List Rv) (n : ℕ) (long : n ≡ length xs) where
   pub pushed_at : list_any is_undefined vs ≡ false → pushed vs xs ≡ Ok (list.splice xs n n vs, n + length vs)
@@ -126,7 +152,131 @@ module _ (xs : List Rv) (n : ℕ) (long : n ≡ length xs) where
       let first : m ≡ min 1 (length xs) = omega (arith, p, long) in
       rw first (λ i. Ok (sym (splice_first xs) i, sym q i))
 
--- one more element of a range
-pub one_more : (xs out more : List Rv) (from i to : ℕ) (v : Rv) → out ++ slice_range xs i to ≡ slice_range xs from to → slice_get xs i ≡ Some v → i < to → more ≡ out ++ v ∷ [] → more ++ slice_range xs (i + 1) to ≡ slice_range xs from to
-one_more xs out more from i to v p q l r =
-    rw r (append_assoc out (v ∷ []) (slice_range xs (i + 1) to) ∙ ap (λ ys. out ++ ys) (sym (range_step xs i to v q l)) ∙ p)
+  pub turned_at : (vs : List Rv) → vs ≡ reverse xs → turned xs ≡ Ok (list.splice xs 0 n vs, tt)
+  turned_at vs p = λ i. Ok ((sym p ∙ sym (splice_all xs vs n long)) i, tt)
+
+  pub cut_ok : (z : ℤ) (k : ℕ) → is_past z n ≡ false → k ≡ natural z → cut_to z xs ≡ Ok (list.splice xs k n [], tt)
+  cut_ok z k p q =
+      let inside : is_past z (length xs) ≡ false = ap (is_past z) (sym long) ∙ p in
+      rw inside (λ i. Ok ((ap (λ m. take m xs) (sym q) ∙ sym (splice_last xs k n long)) i, tt))
+
+  pub cut_refused : (z : ℤ) → is_past z n ≡ true → cut_to z xs ≡ Err fault.Hole
+  cut_refused z p = let past : is_past z (length xs) ≡ true = ap (is_past z) (sym long) ∙ p in rw past refl
+
+-- ---- `splice`
+same_next : (f : Rows → Rows) (h : Heap) (of : Rv) (s : Option Content) → next_object (rewrite_shown f h of s) ≡ next_object h
+same_next f h of None = refl
+same_next f h Undefined (Some c) = refl
+same_next f h (Prim k) (Some c) = refl
+same_next f h (Obj r) (Some c) = refl
+same_next f h (Frozen id) (Some c) = refl
+
+module _ (start : ℤ) (count : Option ℤ) (vs : List Rv) (h : Heap) (of : Rv) where
+  pub splice_refused : (e : DraftFault) → writable h of vs ≡ Err e → splice start count vs h of ≡ Err e
+  splice_refused e p = ap answer_list (row_refused (spliced_at start count vs) h of vs e p)
+
+  pub splice_undefined : (n : ℕ) → IsWritable h of vs n → list_any is_undefined vs ≡ true → splice start count vs h of ≡ Err fault.UndefinedWrite
+  splice_undefined n w p = ap answer_list (row_stopped (spliced_at start count vs) h of vs (elements_of h of) fault.UndefinedWrite w.found (rw p refl))
+
+  spliced_as : (xs : List Rv) (n from to : ℕ) (gone : List Rv) → n ≡ length xs → from ≡ relative start n → to ≡ from + removed count (n - from) → list_any is_undefined vs ≡ false → gone ≡ slice_range xs from to → spliced_at start count vs xs ≡ Ok (list.splice xs from to vs, gone)
+  spliced_as xs n from to gone long p q u r =
+      let first : relative start (length xs) ≡ from = ap (relative start) (sym long) ∙ sym p in
+      let last : from + removed count (length xs - from) ≡ to = ap (λ m. from + removed count (m - from)) (sym long) ∙ sym q in
+      rw (first, last, u) (λ i. Ok (list.splice xs from to vs, sym r i))
+
+  pub splice_row : (g : Heap) (n from to : ℕ) (gone : List Rv) → IsSound h → IsWritable h of vs n → from ≡ relative start n → to ≡ from + removed count (n - from) → list_any is_undefined vs ≡ false → gone ≡ slice_range (elements_of h of) from to → g ≡ with_object (fresh kind.List (map item gone)) (splice_at from to vs h of) → splice start count vs h of ≡ Ok (g, next_object h)
+  splice_row g n from to gone s w p q u r made =
+      let xs = elements_of h of in
+      let k = splice_at from to vs h of in
+      let row = spliced_as xs n from to gone (long_elements (table_of h of) n w.long) p q u r in
+      ap answer_list (row_spliced (spliced_at start count vs) h k of vs n from to vs gone s w row refl)
+      ∙ (λ i. Ok (sym made i, same_next (spliced from to vs) h of (shown h of) i))
+
+-- ---- `slice`
+module _ (start : ℤ) (end : Option ℤ) (h : Heap) (of : Rv) where
+  pub slice_refused : (e : DraftFault) → readable h of [] ≡ Err e → slice start end h of ≡ Err e
+  slice_refused e p = ap (then_list h) (read_refused (λ xs. items (sliced start end xs)) h of [] e p)
+
+  pub slice_row : (g : Heap) (n from to : ℕ) (vs : List Rv) → IsReadable h of [] n → from ≡ relative start n → to ≡ end_at end n → vs ≡ slice_range (elements_of h of) from to → g ≡ with_object (fresh kind.List (map item vs)) h → slice start end h of ≡ Ok (g, next_object h)
+  slice_row g n from to vs w p q r made =
+      let xs = elements_of h of in
+      let long : length xs ≡ n = sym (long_elements (table_of h of) n w.long) in
+      let first : relative start (length xs) ≡ from = ap (relative start) long ∙ sym p in
+      let last : end_at end (length xs) ≡ to = ap (end_at end) long ∙ sym q in
+      let range : sliced start end xs ≡ vs = (λ i. slice_range xs (first i) (last i)) ∙ sym r in
+      ap (then_list h) (read_done (λ ys. items (sliced start end ys)) h of [] xs w.found)
+      ∙ (λ i. Ok (with_object (fresh kind.List (items (range i))) h, next_object h))
+      ∙ (λ i. Ok (sym made i, next_object h))
+
+-- ---- searching
+module _ (v : Rv) where
+  pub not_here : (xs : List Rv) (i : ℕ) (x : Rv) → slice_get xs i ≡ Some x → same x v ≡ false → position_or_len (λ y. same y v) (drop i xs) ≡ 1 + position_or_len (λ y. same y v) (drop (i + 1) xs)
+  not_here [] i x p q = absurd (cc)
+  not_here (y ∷ xs) zero x p q = let here : same y v ≡ false = ap (λ z. same z v) (let e : y ≡ x = cc in e) ∙ q in rw here refl
+  not_here (y ∷ xs) (suc i) x p q = let next : suc i + 1 ≡ suc (i + 1) = omega arith in rw next (not_here xs i x p q)
+
+  pub here : (xs : List Rv) (i : ℕ) (x : Rv) → slice_get xs i ≡ Some x → same x v ≡ true → position_or_len (λ y. same y v) (drop i xs) ≡ 0
+  here [] i x p q = absurd (cc)
+  here (y ∷ xs) zero x p q = let at : same y v ≡ true = ap (λ z. same z v) (let e : y ≡ x = cc in e) ∙ q in rw at refl
+  here (y ∷ xs) (suc i) x p q = here xs i x p q
+
+  pub found_at : (xs : List Rv) (i : ℕ) → i ≡ position_or_len (λ y. same y v) xs → i < length xs → Some i ≡ position (λ y. same y v) xs
+  found_at xs i p l =
+      let at : position_or_len (λ y. same y v) xs ≡ i = sym p in
+      let inside : nat_lt i (length xs) ≡ true = grind (arith, l) in
+      rw (at, inside) refl
+
+  pub found_none : (xs : List Rv) → length xs ≤ position_or_len (λ y. same y v) xs → None ≡ position (λ y. same y v) xs
+  found_none xs l = let outside : nat_lt (position_or_len (λ y. same y v) xs) (length xs) ≡ false = grind (arith, l) in rw outside refl
+
+  next_lt : (m n : ℕ) → nat_lt m n ≡ nat_lt (1 + m) (suc n)
+  next_lt m n = elim (nat_lt m n) as (λ b. nat_lt m n ≡ b → b ≡ nat_lt (1 + m) (suc n)) [
+    | true ↦ λ p. grind (arith, p)
+    | false ↦ λ p. grind (arith, p)
+  ] refl
+
+  any_lt : (xs : List Rv) → list_any (λ y. same y v) xs ≡ nat_lt (position_or_len (λ y. same y v) xs) (length xs)
+  any_lt [] = refl
+  any_lt (y ∷ xs) = elim (same y v) as (λ b. same y v ≡ b → list_any (λ z. same z v) (y ∷ xs) ≡ nat_lt (position_or_len (λ z. same z v) (y ∷ xs)) (length (y ∷ xs))) [
+    | true ↦ λ p. rw p (let yes : nat_lt 0 (suc (length xs)) ≡ true = grind arith in sym yes)
+    | false ↦ λ p. rw p (any_lt xs ∙ next_lt (position_or_len (λ z. same z v) xs) (length xs))
+  ] refl
+
+  some_if : (b : Bool) (n : ℕ) → is_some (cond b (let o : Option ℕ = Some n in o) None) ≡ b
+  some_if true n = refl
+  some_if false n = refl
+
+  any_found : (xs : List Rv) → list_any (λ y. same y v) xs ≡ is_some (position (λ y. same y v) xs)
+  any_found xs = any_lt xs ∙ sym (some_if (nat_lt (position_or_len (λ y. same y v) xs) (length xs)) (position_or_len (λ y. same y v) xs))
+
+-- the value at an index, of which it is known whether it is the same as another
+at_same : (t : Rows) (i : ℕ) (v : Rv) (b : Bool) → i < length t → IfSome (value_at i t) (λ x. b ≡ same x v) → (x : Rv) × (slice_get (elements t) i ≡ Some x) × (b ≡ same x v)
+at_same [] i v b l p = absurd (omega arith)
+at_same (e ∷ t) zero v b l p = (e.1, refl, p)
+at_same (e ∷ t) (suc i) v b l p = at_same t i v b (omega arith) p
+
+module _ (v : Rv) (t : Rows) (i n : ℕ) (b : Bool) (long : n ≡ length t) (l : i < n) (seen : IfSome (value_at i t) (λ x. b ≡ same x v)) (left : i + position_or_len (λ x. same x v) (drop i (elements t)) ≡ position_or_len (λ x. same x v) (elements t)) where
+  pub search_found : b ≡ true → Some i ≡ position (λ x. same x v) (elements t)
+  search_found p =
+      let s = at_same t i v b (omega (arith, long, l)) seen in
+      let none_before = here v (elements t) i s.0 s.1 (sym s.2 ∙ p) in
+      found_at v (elements t) i (omega (arith, none_before, left)) (let m = long_elements t n long in omega (arith, m, l))
+
+  pub search_on : b ≡ false → i + 1 + position_or_len (λ x. same x v) (drop (i + 1) (elements t)) ≡ position_or_len (λ x. same x v) (elements t)
+  search_on p =
+      let s = at_same t i v b (omega (arith, long, l)) seen in
+      let one_less = not_here v (elements t) i s.0 s.1 (sym s.2 ∙ p) in
+      omega (arith, one_less, left)
+
+module _ (v : Rv) (h : Heap) (of : Rv) where
+  pub index_refused : (e : DraftFault) → readable h of (v ∷ []) ≡ Err e → index_of v h of ≡ Err e
+  index_refused e p = read_refused (λ xs. index_or (position (λ x. same x v) xs)) h of (v ∷ []) e p
+
+  pub includes_refused : (e : DraftFault) → readable h of (v ∷ []) ≡ Err e → includes v h of ≡ Err e
+  includes_refused e p = read_refused (λ xs. list_any (λ x. same x v) xs) h of (v ∷ []) e p
+
+  pub index_row : (n : ℕ) (r : Option ℕ) → IsReadable h of (v ∷ []) n → r ≡ position (λ x. same x v) (elements_of h of) → index_of v h of ≡ Ok (index_or r)
+  index_row n r w p = read_done (λ xs. index_or (position (λ x. same x v) xs)) h of (v ∷ []) (elements_of h of) w.found ∙ (λ i. Ok (index_or (sym p i)))
+
+  pub includes_row : (n : ℕ) (r : Option ℕ) → IsReadable h of (v ∷ []) n → r ≡ position (λ x. same x v) (elements_of h of) → includes v h of ≡ Ok (is_some r)
+  includes_row n r w p = read_done (λ xs. list_any (λ x. same x v) xs) h of (v ∷ []) (elements_of h of) w.found ∙ (λ i. Ok ((any_found v (elements_of h of) ∙ ap is_some (sym p)) i))

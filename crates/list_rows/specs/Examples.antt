@@ -283,3 +283,81 @@ includes_on_primitive = refl
 
 includes_on_foreign : includes (int 1) start foreign ≡ Err fault.Revoked
 includes_on_foreign = refl
+
+-- ---- more rows
+splice_insert : l_after (splice (pos 1) (Some (pos 0)) (int 7 ∷ []) start (object 1)) ≡ l_is (int 1 ∷ int 7 ∷ int 2 ∷ []) true
+splice_insert = refl
+
+splice_none_removed : shown (left (splice (pos 1) (Some (pos 0)) (int 7 ∷ []) start (object 1))) (object 6) ≡ fresh_list []
+splice_none_removed = refl
+
+splice_before_end : l_after (splice (negsuc 1) (Some (pos 1)) [] start (object 1)) ≡ l_is (int 2 ∷ []) true
+splice_before_end = refl
+
+-- the least index of 64 bits
+splice_least : l_after (splice (negsuc 9223372036854775807) None [] start (object 1)) ≡ l_is [] true
+splice_least = refl
+
+slice_least : shown (left (slice (pos 0) (Some (negsuc 9223372036854775807)) start (object 1))) (object 6) ≡ fresh_list []
+slice_least = refl
+
+slice_empty : shown (left (slice (pos 0) None start (object 3))) (object 6) ≡ fresh_list []
+slice_empty = refl
+
+unshift_nothing : unshift [] start (object 1) ≡ Ok (left (unshift [] start (object 1)), 2)
+unshift_nothing = refl
+
+unshift_nothing_mark : marked (left (unshift [] start (object 1))) (object 1) ≡ false
+unshift_nothing_mark = refl
+
+push_itself : l_after (push (object 1 ∷ []) start (object 1)) ≡ l_is (int 1 ∷ int 2 ∷ object 1 ∷ []) true
+push_itself = refl
+
+push_frozen : l_after (push (Frozen 1 ∷ []) start (object 1)) ≡ l_is (int 1 ∷ int 2 ∷ Frozen 1 ∷ []) true
+push_frozen = refl
+
+length_none : l_after (set_length (pos 0) start (object 1)) ≡ l_is [] true
+length_none = refl
+
+included_undefined : includes Undefined start (object 1) ≡ Ok false
+included_undefined = refl
+
+included_foreign : includes foreign start (object 1) ≡ Err fault.Revoked
+included_foreign = refl
+
+-- a call that is refused uses no name up
+no_name_used : answer (slice (pos 0) None (left (splice (pos 0) None (Undefined ∷ []) start (object 1))) (object 1)) ≡ Ok (object 6)
+no_name_used = refl
+
+pop_on_object : pop start (object 0) ≡ Err fault.TypeMismatch
+pop_on_object = refl
+
+shift_on_primitive : shift start (int 1) ≡ Err fault.TypeMismatch
+shift_on_primitive = refl
+
+unshift_on_frozen_object : unshift [] start (Frozen 4) ≡ Err fault.TypeMismatch
+unshift_on_frozen_object = refl
+
+reverse_on_object : reverse start (object 0) ≡ Err fault.TypeMismatch
+reverse_on_object = refl
+
+splice_on_object : splice (pos 0) None (Undefined ∷ []) start (object 0) ≡ Err fault.TypeMismatch
+splice_on_object = refl
+
+length_on_object : set_length (negsuc 0) start (object 0) ≡ Err fault.TypeMismatch
+length_on_object = refl
+
+pop_on_foreign : pop start foreign ≡ Err fault.Revoked
+pop_on_foreign = refl
+
+shift_on_foreign : shift start foreign ≡ Err fault.Revoked
+shift_on_foreign = refl
+
+unshift_foreign : unshift (foreign ∷ Undefined ∷ []) start (object 0) ≡ Err fault.Revoked
+unshift_foreign = refl
+
+reverse_on_foreign : reverse start foreign ≡ Err fault.Revoked
+reverse_on_foreign = refl
+
+length_on_foreign : set_length (negsuc 0) start foreign ≡ Err fault.Revoked
+length_on_foreign = refl

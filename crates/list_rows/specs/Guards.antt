@@ -1,10 +1,7 @@
 -- What rules a call on a list out before its elements are looked at, and what is left of its row then.
-use Rattle.std.proofs.Common.{◌≡◌, ◌≢◌, ℕ, ◌<◌, ◌≤◌, ◌+◌, ◌-◌, List, [], ◌∷◌, ◌++◌, length, map, take, drop, refl, ap, sym, ◌∙◌, subst, arith, Bool, true, false, not}
-use Rattle.std.specs.Prelude.{◌||◌, ◌&&◌, ◌==◌, Option, Some, None, option_map, Result, Ok, Err, if◌then◌else◌, slice_get, slice_range, IsTrue}
-use Rattle.std.specs.List as list
+use Rattle.std.proofs.Common.{◌≡◌, ◌≢◌, ℕ, List, [], ◌∷◌, length, refl, ap, ◌∙◌, arith, Bool, true, false, not}
+use Rattle.std.specs.Prelude.{◌||◌, ◌==◌, Option, Some, None, option_map, Result, Ok, Err, if◌then◌else◌}
 use Rattle.std.specs.List.{list_any}
-use Rattle.value_model.specs.declared.key.Key.{Key}
-use Rattle.value_model.specs.declared.key.Key.TheVariants as key
 use Rattle.value_model.specs.declared.words.Kind.{Kind}
 use Rattle.value_model.specs.declared.words.Kind.TheVariants as kind
 use Rattle.run_heap.specs.declared.value.Rv.{Rv}
@@ -13,8 +10,8 @@ use Rattle.run_heap.specs.declared.content.Content.{Content}
 use Rattle.run_heap.specs.declared.fault.DraftFault.{DraftFault}
 use Rattle.run_heap.specs.declared.fault.DraftFault.TheVariants as fault
 use Rattle.run_heap.specs.Heap.{Heap, shown, is_foreign}
-use Rattle.run_heap.specs.Operations.{Rows, unless, any_foreign, is_frozen, is_list, is_undefined, edited, edit_shown, then_write, then_read, rows_of, rewrite, table_of, kind_of, value_at, item, spliced, splice_at}
-use Rattle.run_heap.specs.Sound.{IsObject, IsContainer, IsStored, AllStored, Owned, AllOwned, IsSound, IsContent, IsTable, all_stand}
+use Rattle.run_heap.specs.Operations.{unless, any_foreign, is_frozen, is_list, is_undefined, edited, edit_shown, then_write, then_read, rows_of, rewrite, table_of, kind_of}
+use Rattle.run_heap.specs.Sound.{IsObject, IsContainer, IsStored, AllStored, Owned, AllOwned}
 use Rattle.list_rows.specs.Calls.{elements, items, on_list, with_items, read_list, read_shown}
 
 -- the elements of a container, as a list has them

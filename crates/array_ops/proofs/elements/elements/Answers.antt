@@ -1,8 +1,7 @@
-use Rattle.std.proofs.Common.{◌≡◌, ◌∙◌, ◌++◌, List, [], ◌∷◌, sym, subst}
-use Rattle.std.specs.Prelude.{Some}
+use Rattle.std.proofs.Common.{◌∙◌, List, sym, subst}
 use Rattle.run_heap.specs.declared.value.Rv.{Rv}
 use Rattle.run_heap.specs.Operations.{table_of}
-use Rattle.run_heap.specs.Sound.{AllStored, IsStored}
+use Rattle.run_heap.specs.Sound.{AllStored}
 use Rattle.draft_core.specs.Seen.{heap}
 use Rattle.list_rows.specs.Edits.{one_more, stored_more, value_element}
 use Rattle.list_rows.specs.Guards.{elements_of}

@@ -1,5 +1,4 @@
-use Rattle.std.proofs.Common.{◌≡◌, List, []}
-use Rattle.run_heap.specs.declared.value.Rv.{Rv}
+use Rattle.std.proofs.Common.{[]}
 use Rattle.run_heap.specs.Operations.{table_of}
 use Rattle.draft_core.specs.Seen.{heap}
 use Rattle.list_rows.specs.Calls.{popped}

@@ -1,4 +1,4 @@
-use Rattle.std.proofs.Common.{◌≡◌, ◌∙◌, ◌+◌, length, sym}
+use Rattle.std.proofs.Common.{◌∙◌, ◌+◌, length, sym}
 use Rattle.list_rows.specs.Calls.{unshifted}
 use Rattle.list_rows.specs.Edits.{long_elements, unshifted_at, row_spliced}
 use Rattle.list_rows.specs.Guards.{elements_of, items_stored}
