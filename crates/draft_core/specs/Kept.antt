@@ -7,8 +7,8 @@ use Rattle.std.specs.Option.{option_or}
 use Rattle.std.specs.Ordering.{nat_cmp}
 use Rattle.std.proofs.lemmas.Grind.{common_steps}
 use Rattle.value_model.specs.declared.key.Key.TheVariants as key
-use Rattle.numbered.specs.Laws.{Extends, extends_take, containers_at}
-use Rattle.numbered.specs.Store.{IsNumber, IsStore, tree_at}
+use Rattle.numbered.specs.Laws.{Extends, extends_take, containers_at, of_number, place_of}
+use Rattle.numbered.specs.Store.{IsNumber, IsStore, IsOf, tree_at}
 use Rattle.numbered.specs.Tree.{Tree, prim, node, containers, containers_in, branches_of, place}
 use Rattle.node_store.specs.Nodes.{cell_of}
 use Rattle.node_store.specs.Tables.{cell_again}
@@ -202,11 +202,50 @@ frozen_cell : (t : Tree) (id : ℕ) → cell_of t ≡ cell.Node id → spec.froz
 frozen_cell (prim k) id h = absurd (cc)
 frozen_cell (node i of es) id h = let e : i ≡ id = cc in ap Frozen e
 
-original_as : (h : Heap) (v : Rv) (a b : Bool) (w : Rv) → is_foreign h v ≡ a → not (is_draft h v) ≡ b → spec.frozen_at (place (spec.slot_of v) (tree_at h.states h.root)) ≡ w → spec.original h v ≡ (if a then Err fault.Revoked else (if b then Err fault.NotADraft else Ok w))
-original_as h v a b w p q r = rw (p, q, r) refl
+pub same_scope : (ts : List Tree) (s : Scope) (v : Rv) (r : ObjRef) → v ≡ Obj r → spec.owns (heap ts s) v ≡ true → r.scope ≡ s.number
+same_scope ts s v r is o = let e : (r.scope == s.number) ≡ true = owns_object ts s v r is ∙ o in grind (arith, e)
+
+of_cell : (us : List Tree) (t : Tree) (id : ℕ) → cell_of t ≡ cell.Node id → IsOf us t → IsNumber us id
+of_cell us (prim k) id h o = absurd (cc)
+of_cell us (node i of es) id h o = let e : i ≡ id = cc in subst (IsNumber us) e o.0
+
+place_is : (ts : List Tree) (s : Scope) (v : Rv) (r : ObjRef) → v ≡ Obj r → place (spec.slot_of v) (tree_at (heap ts s).states (heap ts s).root) ≡ place r.slot (tree_at (take s.len ts) s.root)
+place_is ts s v r is = unfold heap in ap (λ (x : Rv). place (spec.slot_of x) (tree_at (take s.len ts) s.root)) is
+
+ours : (ts : List Tree) (s : Scope) (v : Rv) (r : ObjRef) → v ≡ Obj r → r.scope ≡ s.number → is_foreign (heap ts s) v ≡ false
+ours ts s v r is here =
+    let yes : (r.scope == s.number) ≡ true = grind (arith, here) in
+    rw (is, scope_is ts s, yes) refl
+
+-- whether it is a draft, where it is of this scope
+drafted : (ts : List Tree) (s : Scope) (v : Rv) (r : ObjRef) (b : Bool) → Stands ts s → v ≡ Obj r → r.scope ≡ s.number → nat_lt r.slot s.drafts ≡ b → is_draft (heap ts s) v ≡ b
+drafted ts s v r b st is here l =
+    let yes : (r.scope == s.number) ≡ true = grind (arith, here) in
+    sym (draft_is ts s v r st is) ∙ rw (yes, l) refl
+
+original_as : (h : Heap) (v : Rv) (b : Bool) (w : Rv) → is_foreign h v ≡ false → is_draft h v ≡ b → spec.frozen_at (place (spec.slot_of v) (tree_at h.states h.root)) ≡ w → spec.original h v ≡ (if not b then Err fault.NotADraft else Ok w)
+original_as h v b w p q r = rw (p, q, r) refl
 
 pub original_draft : (ts : List Tree) (s : Scope) (v : Rv) (r : ObjRef) (id : ℕ) → Stands ts s → v ≡ Obj r → r.scope ≡ s.number → r.slot < s.drafts → IsNumber ts id → place r.slot (tree_at ts s.root) ≡ Some (tree_at ts id) → spec.original (heap ts s) v ≡ Ok (Frozen id)
-original_draft ts s v r id st is here l n at = ?
+original_draft ts s v r id st is here l n at =
+    let yes : nat_lt r.slot s.drafts ≡ true = grind (arith, l) in
+    let there = place_is ts s v r is ∙ place_now ts s r.slot st ∙ at in
+    original_as (heap ts s) v true (Frozen id) (ours ts s v r is here) (drafted ts s v r true st is here yes)
+    (ap spec.frozen_at there ∙ frozen_cell (tree_at ts id) id (cell_again ts (cell.Node id) st.store n))
 
 pub original_none : (ts : List Tree) (s : Scope) (v : Rv) (r : ObjRef) → Stands ts s → v ≡ Obj r → r.scope ≡ s.number → s.drafts ≤ r.slot → spec.original (heap ts s) v ≡ Err fault.NotADraft
-original_none ts s v r st is here l = ?
+original_none ts s v r st is here l =
+    let no : nat_lt r.slot s.drafts ≡ false = grind (arith, l) in
+    original_as (heap ts s) v false _ (ours ts s v r is here) (drafted ts s v r false st is here no) refl
+
+-- the container that a draft was opened on was there at the beginning
+pub opened_on : (ts : List Tree) (s : Scope) (n id : ℕ) → Stands ts s → IsNumber ts id → place n (tree_at ts s.root) ≡ Some (tree_at ts id) → IsNumber (heap ts s).states id
+opened_on ts s n id st h at =
+    let there = place_now ts s n st ∙ at in
+    let store : IsStore (take s.len ts) = subst IsStore (states_are ts s) st.sound.store in
+    let o = place_of (take s.len ts) store n (tree_at (take s.len ts) s.root) (tree_at ts id) (of_number (take s.len ts) s.root store st.root) there in
+    rw (states_are ts s) (of_cell (take s.len ts) (tree_at ts id) id (cell_again ts (cell.Node id) st.store h) o)
+
+-- ---- the object of a draft that is untouched
+pub node_copied : (ts : List Tree) (s : Scope) (n id : ℕ) (g : Given) → Stands ts s → place n (tree_at ts s.root) ≡ Some (tree_at ts id) → g ≡ given.From (record { scope = s.number; slot = n + 1 }) → copied s.number n (place n (tree_at (take s.len ts) s.root)) ≡ given_content g (tree_at ts id)
+node_copied ts s n id g st at is = ap (copied s.number n) (place_now ts s n st ∙ at) ∙ ap (λ (x : Given). given_content x (tree_at ts id)) (sym is)
