@@ -24,9 +24,9 @@ use Rattle.run_heap.specs.Answers.{Answers}
 use Rattle.draft_slots.specs.Looks.{Fit}
 use Rattle.run_heap.specs.declared.content.Content.{Content}
 use Rattle.run_heap.specs.Heap.{Heap, copied, opened, drafts, is_draft, is_foreign, shown, given_content}
-use Rattle.run_heap.specs.Laws.{no_place, place_within, opened_sound, shown_content, value_stored}
+use Rattle.run_heap.specs.Laws.{get_none, no_place, place_within, opened_sound, shown_content, value_stored}
 use Rattle.run_heap.specs.Operations as spec
-use Rattle.run_heap.specs.Sound.{IsSound, IsContent, IsContainer, IsStored, RowsStored, Owned, ascends}
+use Rattle.run_heap.specs.Sound.{IsSound, IsContent, IsContainer, IsObject, IsStored, RowsStored, Owned, ascends}
 use Rattle.draft_core.specs.declared.scope.Scope.{Scope}
 use Rattle.draft_core.specs.Seen.{heap, Stands, kept_heap, kept_object}
 
@@ -249,3 +249,40 @@ opened_on ts s n id st h at =
 -- ---- the object of a draft that is untouched
 pub node_copied : (ts : List Tree) (s : Scope) (n id : ℕ) (g : Given) → Stands ts s → place n (tree_at ts s.root) ≡ Some (tree_at ts id) → g ≡ given.From (record { scope = s.number; slot = n + 1 }) → copied s.number n (place n (tree_at (take s.len ts) s.root)) ≡ given_content g (tree_at ts id)
 node_copied ts s n id g st at is = ap (copied s.number n) (place_now ts s n st ∙ at) ∙ ap (λ (x : Given). given_content x (tree_at ts id)) (sym is)
+
+pub owns_ours : (h : Heap) (v : Rv) → spec.owns h v ≡ true → is_foreign h v ≡ false
+owns_ours h v o = elim (is_foreign h v) as (λ b. not b ≡ true → b ≡ false) [ true ↦ λ e. absurd (cc) | false ↦ λ e. refl ] o
+
+-- ---- marks
+pub marked_later : (ts : List Tree) (s : Scope) (n : ℕ) (o : Option Content) → s.drafts ≤ n → slice_get s.later.items (n - s.drafts) ≡ o → spec.is_marked ((heap ts s).object n) ≡ spec.is_marked o
+marked_later ts s n o low e =
+    let no : nat_lt n s.drafts ≡ false = grind (arith, low) in
+    let there : (heap ts s).object n ≡ o = object_is ts s n ∙ rw no e in
+    ap spec.is_marked there
+
+unmarked : (scope n : ℕ) (t : Option Tree) → spec.is_marked (copied scope n t) ≡ false
+unmarked scope n None = refl
+unmarked scope n (Some (prim k)) = refl
+unmarked scope n (Some (node id of es)) = refl
+
+pub marked_touched : (ts : List Tree) (s : Scope) (n : ℕ) (o : Option Content) → n < s.drafts → get nat_cmp s.touched n ≡ o → spec.is_marked ((heap ts s).object n) ≡ spec.is_marked o
+marked_touched ts s n (Some c) l e = ap spec.is_marked (touched_is ts s n (Some c) l e)
+marked_touched ts s n None l e = ap spec.is_marked (touched_is ts s n None l e) ∙ unmarked s.number n (place n (tree_at (take s.len ts) s.root))
+
+pub object_owned : (h : Heap) (v : Rv) → IsObject h v → Owned h v
+object_owned h Undefined o = absurd o
+object_owned h (Prim k) o = absurd o
+object_owned h (Obj r) o = λ e. o.1
+object_owned h (Frozen id) o = absurd o
+
+pub get_at : (cs ds : List Content) (i : ℕ) (c : Content) → ds ≡ cs → i < length ds → c ≡ get_or ds i c → slice_get cs i ≡ Some c
+get_at cs ds i c e l is =
+    let inside : i < length cs = subst (λ (xs : List Content). i < length xs) e l in
+    get_in cs i c inside ∙ ap (λ (x : Content). let o : Option Content = Some x in o) (sym (is ∙ ap (λ (xs : List Content). get_or xs i c) e))
+
+pub get_past : (cs ds : List Content) (i : ℕ) → ds ≡ cs → length ds ≤ i → slice_get cs i ≡ None
+get_past cs ds i e l = get_none cs i (subst (λ (xs : List Content). length xs ≤ i) e l)
+
+-- ---- a value as it is kept
+peek_own : (h : Heap) (of : Rv) (i : ℕ) (t : spec.Rows) (v : Rv) → spec.table_of h of ≡ t → spec.value_at i t ≡ Some v → spec.value_at i (spec.table_of h of) ≡ Some v
+peek_own h of i t v e p = ap (spec.value_at i) e ∙ p

@@ -6,6 +6,7 @@
 
 mod fresh;
 mod mint;
+mod plans;
 mod reads;
 mod scope;
 mod tables;

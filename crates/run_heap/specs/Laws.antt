@@ -361,7 +361,7 @@ get_some [] i l = absurd (omega arith)
 get_some (c ∷ cs) zero l = λ h. absurd (cc)
 get_some (c ∷ cs) (suc i) l = get_some cs i (omega arith)
 
-get_none : (cs : List Content) (i : ℕ) → length cs ≤ i → slice_get cs i ≡ None
+pub get_none : (cs : List Content) (i : ℕ) → length cs ≤ i → slice_get cs i ≡ None
 get_none [] i l = refl
 get_none (c ∷ cs) zero l = absurd (omega arith)
 get_none (c ∷ cs) (suc i) l = get_none cs i (omega arith)
