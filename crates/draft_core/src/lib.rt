@@ -7,6 +7,7 @@
 mod fresh;
 mod lists;
 mod mint;
+mod plans;
 mod reads;
 mod scope;
 mod tables;

@@ -27,7 +27,10 @@ impl Scope {
         ensures own { OnOk result (HasTable self.new name) }
         ensures tables { slots self.new ≤ slots self.old + 1 }
     {
-        if name >= self.drafts || self.touched.contains_key(&name) {
+        if name >= self.drafts {
+            return Ok(());
+        }
+        if self.touched.contains_key(&name) {
             return Ok(());
         }
         let id = store.locate(self.root, name);

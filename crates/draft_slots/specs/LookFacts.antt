@@ -1,5 +1,5 @@
 -- What a look at a node shows.
-use Rattle.std.proofs.Common.{◌≡◌, ℕ, zero, suc, ◌<◌, List, [], ◌∷◌, ◌++◌, length, drop, refl, ap, sym, ◌∙◌, subst, arith, true, false, cond}
+use Rattle.std.proofs.Common.{◌≡◌, ◌≢◌, ℕ, zero, suc, ◌<◌, List, [], ◌∷◌, ◌++◌, length, drop, refl, ap, sym, ◌∙◌, subst, arith, true, false, cond}
 use Rattle.std.proofs.Math.Seq.{drop-nil}
 use Rattle.std.proofs.lemmas.List.{append-nil, append_assoc}
 use Rattle.std.specs.Ordering.{is_eq}
@@ -145,3 +145,10 @@ some_kind o c h = rw h refl
 pub looked_kind : (ts : List Tree) (l : Look) → IsLook ts l → Some (kind_in (looked ts l)) ≡ option_map (λ (d : Content). d.kind) (looked ts l)
 looked_kind ts (Own c) h = refl
 looked_kind ts (Node id g) h = some_kind (given_content g (tree_at ts id)) _ (content_node ts g id h.0 h.1)
+
+no_none : (o : Option Content) (c : Content) → o ≡ Some c → o ≢ None
+no_none o c h = rw h (λ q. absurd (cc))
+
+pub looked_some : (ts : List Tree) (l : Look) → IsLook ts l → looked ts l ≢ None
+looked_some ts (Own c) h = λ q. absurd (cc)
+looked_some ts (Node id g) h = no_none (given_content g (tree_at ts id)) _ (content_node ts g id h.0 h.1)

@@ -33,11 +33,11 @@ use Rattle.run_heap.specs.Operations.{Rows, source_in, or_undefined, value_at, e
 use Rattle.run_heap.specs.Sound.{IsStored, Fits, Owned, RowsStored, may_stand, all_stand, ascends, IsTable, IsContent, IsOpenedAs, HasSource, IsSound, Keeps, Grows}
 use Rattle.run_heap.specs.Values.{same, same_tables}
 
-left_true : (a b : Bool) → (a && b) ≡ true → a ≡ true
+pub left_true : (a b : Bool) → (a && b) ≡ true → a ≡ true
 left_true true b h = refl
 left_true false b h = h
 
-right_true : (a b : Bool) → (a && b) ≡ true → b ≡ true
+pub right_true : (a b : Bool) → (a && b) ≡ true → b ≡ true
 right_true true b h = h
 right_true false b h = absurd (cc)
 
@@ -356,12 +356,12 @@ sources_in h [] i a = tt
 sources_in h (c ∷ cs) zero a = a.0.1
 sources_in h (c ∷ cs) (suc i) a = sources_in h cs i a.1
 
-get_some : (cs : List Content) (i : ℕ) → i < length cs → slice_get cs i ≢ None
+pub get_some : (cs : List Content) (i : ℕ) → i < length cs → slice_get cs i ≢ None
 get_some [] i l = absurd (omega arith)
 get_some (c ∷ cs) zero l = λ h. absurd (cc)
 get_some (c ∷ cs) (suc i) l = get_some cs i (omega arith)
 
-get_none : (cs : List Content) (i : ℕ) → length cs ≤ i → slice_get cs i ≡ None
+pub get_none : (cs : List Content) (i : ℕ) → length cs ≤ i → slice_get cs i ≡ None
 get_none [] i l = refl
 get_none (c ∷ cs) zero l = absurd (omega arith)
 get_none (c ∷ cs) (suc i) l = get_none cs i (omega arith)
