@@ -56,7 +56,7 @@ kept_update scope states root drafts before after old new n d long each = λ i. 
 kept_same : (scope : ℕ) (states : List Tree) (root drafts : ℕ) (before after : ℕ → Option Content) (later : List Content) → ((m : ℕ) → kept_object scope (tree_at states root) drafts after later m ≡ kept_object scope (tree_at states root) drafts before later m) → kept_heap scope states root drafts after later ≡ kept_heap scope states root drafts before later
 kept_same scope states root drafts before after later each = λ i. record { scope = scope; states = states; root = root; next = drafts + length later; object = λ m. each m i }
 
-heap_is : (ts : List Tree) (s : Scope) → kept_heap s.number (take s.len ts) s.root s.drafts (get nat_cmp s.touched) s.later.items ≡ heap ts s
+pub heap_is : (ts : List Tree) (s : Scope) → kept_heap s.number (take s.len ts) s.root s.drafts (get nat_cmp s.touched) s.later.items ≡ heap ts s
 heap_is ts s = unfold heap in refl
 
 all_same : (before after : ℕ → Option Content) (n : ℕ) → ((q : ℕ) → q ≢ n → after q ≡ before q) → after n ≡ before n → (q : ℕ) → after q ≡ before q
@@ -67,7 +67,7 @@ all_same before after n others here q = elim (q == n) as (λ b. (q == n) ≡ b �
 
 module _ (ts : List Tree) (s t : Scope) (b : Beside s t) where
   -- the heap with the fields of s, and the tables of t
-  fields : heap ts t ≡ kept_heap s.number (take s.len ts) s.root s.drafts (get nat_cmp t.touched) t.later.items
+  pub fields : heap ts t ≡ kept_heap s.number (take s.len ts) s.root s.drafts (get nat_cmp t.touched) t.later.items
   fields = sym (heap_is ts t) ∙ (λ i. kept_heap (b.number i) (take (b.len i) ts) (b.root i) (b.drafts i) (get nat_cmp t.touched) t.later.items)
 
   module _ (later : t.later.items ≡ s.later.items) (n : ℕ) (others : (q : ℕ) → q ≢ n → get nat_cmp t.touched q ≡ get nat_cmp s.touched q) where

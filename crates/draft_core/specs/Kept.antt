@@ -9,7 +9,7 @@ use Rattle.std.proofs.lemmas.Grind.{common_steps}
 use Rattle.value_model.specs.declared.key.Key.TheVariants as key
 use Rattle.numbered.specs.Laws.{Extends, extends_take, containers_at, of_number, place_of}
 use Rattle.numbered.specs.Store.{IsNumber, IsStore, IsOf, tree_at}
-use Rattle.numbered.specs.Tree.{Tree, prim, node, containers, containers_in, branches_of, place}
+use Rattle.numbered.specs.Tree.{Tree, prim, node, containers, containers_in, branches_of, before, place}
 use Rattle.node_store.specs.Nodes.{cell_of}
 use Rattle.node_store.specs.Tables.{cell_again}
 use Rattle.node_store.specs.declared.node.Cell.TheVariants as cell
@@ -21,14 +21,20 @@ use Rattle.run_heap.specs.declared.value.Given.TheVariants as given
 use Rattle.run_heap.specs.declared.fault.DraftFault.{DraftFault}
 use Rattle.run_heap.specs.declared.fault.DraftFault.TheVariants as fault
 use Rattle.run_heap.specs.Answers.{Answers}
-use Rattle.draft_slots.specs.Looks.{Fit}
+use Rattle.draft_slots.specs.Looks.{Fit, looked}
+use Rattle.draft_slots.specs.LookFacts.{rows_node}
+use Rattle.draft_slots.specs.Peeks.{IsKept}
+use Rattle.draft_slots.specs.declared.look.Look.{Look}
+use Rattle.draft_slots.specs.declared.look.Look.TheVariants.{Own, Node}
+use Rattle.draft_slots.specs.declared.look.Peek.{Peek}
+use Rattle.draft_slots.specs.declared.look.Peek.TheVariants.{Read, Untouched}
 use Rattle.run_heap.specs.declared.content.Content.{Content}
-use Rattle.run_heap.specs.Heap.{Heap, copied, opened, drafts, is_draft, is_foreign, shown, given_content}
+use Rattle.run_heap.specs.Heap.{Heap, copied, opened, drafts, is_draft, is_foreign, shown, after, given_content}
 use Rattle.run_heap.specs.Laws.{get_none, no_place, place_within, opened_sound, shown_content, value_stored}
 use Rattle.run_heap.specs.Operations as spec
 use Rattle.run_heap.specs.Sound.{IsSound, IsContent, IsContainer, IsObject, IsStored, RowsStored, Owned, ascends}
 use Rattle.draft_core.specs.declared.scope.Scope.{Scope}
-use Rattle.draft_core.specs.Seen.{heap, Stands, kept_heap, kept_object}
+use Rattle.draft_core.specs.Seen.{heap, Stands, IsPeek, kept_heap, kept_object}
 
 -- ---- the store that has grown
 pub same_tree : (ts : List Tree) (n id : ℕ) → IsNumber (take n ts) id → tree_at (take n ts) id ≡ tree_at ts id
@@ -284,5 +290,8 @@ pub get_past : (cs ds : List Content) (i : ℕ) → ds ≡ cs → length ds ≤ 
 get_past cs ds i e l = get_none cs i (subst (λ (xs : List Content). length xs ≤ i) e l)
 
 -- ---- a value as it is kept
-peek_own : (h : Heap) (of : Rv) (i : ℕ) (t : spec.Rows) (v : Rv) → spec.table_of h of ≡ t → spec.value_at i t ≡ Some v → spec.value_at i (spec.table_of h of) ≡ Some v
-peek_own h of i t v e p = ap (spec.value_at i) e ∙ p
+pub peek_is : (ts : List Tree) (h : Heap) (of : Rv) (l : Look) (i : ℕ) (p : Peek) → looked ts l ≡ shown h of → IsKept ts l i p → IsPeek h of i p
+peek_is ts h of (Own c) i (Read v) e k = rw (sym e) k
+peek_is ts h of (Own c) i (Untouched d) e k = absurd k
+peek_is ts h of (Node id g) i (Read v) e k = absurd k
+peek_is ts h of (Node id g) i (Untouched d) e k = (after g (before i (branches_of (tree_at ts id))), ap (λ (o : Option Content). spec.value_at i (spec.rows_of o)) (sym e) ∙ ap (spec.value_at i) (rows_node g (tree_at ts id)) ∙ k)

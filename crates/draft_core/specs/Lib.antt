@@ -1,3 +1,4 @@
+pub mod Fresh
 pub mod Keeping
 pub mod Changed
 pub mod Kept

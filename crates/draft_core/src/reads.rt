@@ -1,5 +1,8 @@
 //! Calls that read. None of them makes an object's table.
-ghost use Rattle.std.specs.Prelude.{◌≡◌, ◌^◌, ◌≢◌, ◌<◌, ◌≤◌, List, length, IfOk, IfSome, Some, false};
+ghost use Rattle.std.specs.BTreeMap.{get};
+ghost use Rattle.std.specs.List.{list_any, All};
+ghost use Rattle.std.specs.Ordering.{nat_cmp};
+ghost use Rattle.std.specs.Prelude.{◌^◌, ◌&&◌, nat_lt, ◌≡◌, ◌≢◌, ◌<◌, ◌≤◌, List, length, IfOk, IfSome, Some, false};
 ghost use Rattle.node_store.specs.Nodes.{cells_of};
 ghost use Rattle.numbered.specs.Store.{tree_at};
 ghost use Rattle.numbered.specs.Tree.{Tree, containers};
@@ -15,8 +18,9 @@ ghost use Rattle.draft_core.specs.Seen.{heap, Stands, IsPeek};
 use crate::scope::Scope;
 use draft_slots::Peek;
 use node_store::{Cell, Kind, NodeId, Store};
-use run_heap::{DraftFault, Rv};
+use run_heap::{Content, DraftFault, Rv};
 use std::alloc::{AllocError, Global};
+use std::collections::BTreeMap;
 use value_model::Key;
 use values::Path;
 
@@ -74,7 +78,7 @@ impl Scope {
         }
         match v {
             Rv::Obj(object) => {
-                if object.slot < self.drafts {
+                if object.slot < self.drafts as u64 {
                     Ok(Rv::Frozen(store.locate(self.root, object.slot)))
                 } else {
                     Err(DraftFault::NotADraft)
@@ -88,7 +92,7 @@ impl Scope {
     pub fn any_written(&self) -> bool
         ensures { (ts : List Tree) → Stands ts self.now → result ≡ spec.any_written (heap ts self.now) }
     {
-        self.touched.values().any(|content| content.written)
+        any_marked(&self.touched, self.drafts)
     }
 
     /// What kind of container a value is, None exactly for `Undefined` and a primitive. It takes no memory.
@@ -234,8 +238,8 @@ impl Scope {
     fn written_at(&self, name: u64) -> bool
         ensures { (ts : List Tree) → Stands ts self.now → name < (heap ts self.now).next → result ≡ spec.is_marked ((heap ts self.now).object name) }
     {
-        if name >= self.drafts {
-            return match self.later.get((name - self.drafts) as usize) {
+        if name >= self.drafts as u64 {
+            return match self.later.get((name - self.drafts as u64) as usize) {
                 Some(content) => content.written,
                 None => false,
             };
@@ -245,6 +249,16 @@ impl Scope {
             None => false,
         }
     }
+}
+
+/// Whether a draft's table is marked.
+fn any_marked(touched: &BTreeMap<u64, Content>, drafts: u32) -> bool
+    ensures marks { result ≡ list_any (λ e. nat_lt e.0 drafts && e.1.written) touched.now.entries }
+    ensures found { All (λ e. get nat_cmp touched.now e.0 ≡ Some e.1) touched.now.entries }
+{
+    touched
+        .iter()
+        .any(|(name, content)| (*name < drafts as u64) & content.written)
 }
 
 /// The path of the n-th container place of a state.

@@ -27,7 +27,7 @@ impl Scope {
         ensures own { OnOk result (HasTable self.new name) }
         ensures tables { slots self.new ≤ slots self.old + 1 }
     {
-        if name >= self.drafts {
+        if name >= self.drafts as u64 {
             return Ok(());
         }
         if self.touched.contains_key(&name) {
@@ -52,13 +52,13 @@ impl Scope {
         ensures beside { Beside self.old self.new }
         ensures tables { slots self.new ≡ slots self.old }
     {
-        if name < self.drafts {
+        if name < self.drafts as u64 {
             rewrite_draft(alloc, &mut self.touched, name, change)
         } else {
             rewrite_later(
                 alloc,
                 &mut self.later,
-                (name - self.drafts) as usize,
+                (name - self.drafts as u64) as usize,
                 change,
             )
         }

@@ -22,9 +22,10 @@ use Rattle.node_store.specs.declared.node.Cell.TheVariants as cell
 use Rattle.run_heap.specs.declared.value.Given.{Given}
 use Rattle.run_heap.specs.declared.value.Given.TheVariants as given
 use Rattle.run_heap.specs.declared.value.Rv.{Rv}
+use Rattle.run_heap.specs.declared.value.Rv.TheVariants.{Prim}
 use Rattle.run_heap.specs.declared.content.Content.{Content}
 use Rattle.run_heap.specs.Heap.{given_content}
-use Rattle.run_heap.specs.Operations.{Rows, rows_of, source_in, value_at, position, entry, then_read, or_undefined}
+use Rattle.run_heap.specs.Operations.{Rows, rows_of, source_in, value_at, position, entry, then_read, or_undefined, keys_of, listed, item}
 use Rattle.draft_slots.specs.declared.look.Look.{Look}
 use Rattle.draft_slots.specs.declared.look.Look.TheVariants.{Own, Node}
 use Rattle.draft_slots.specs.Looks.{looked, IsLook, kind_in, Fit, GivenFits}
@@ -152,3 +153,13 @@ no_none o c h = rw h (λ q. absurd (cc))
 pub looked_some : (ts : List Tree) (l : Look) → IsLook ts l → looked ts l ≢ None
 looked_some ts (Own c) h = λ q. absurd (cc)
 looked_some ts (Node id g) h = no_none (given_content g (tree_at ts id)) _ (content_node ts g id h.0 h.1)
+
+-- ---- keys as elements of a list
+pub listed_at : (t : Rows) (i : ℕ) (k : Key) → slice_get (keys_of t) i ≡ Some k → slice_get (listed (keys_of t)) i ≡ Some (item (Prim k))
+listed_at [] i k h = absurd (cc)
+listed_at (e ∷ t) zero k h = let q : e.0 ≡ k = cc in ap (λ (j : Key). let o : Option (Key × Rv) = Some (item (Prim j)) in o) q
+listed_at (e ∷ t) (suc i) k h = listed_at t i k h
+
+pub listed_length : (t : Rows) → length (listed (keys_of t)) ≡ length t
+listed_length [] = refl
+listed_length (e ∷ t) = ap suc (listed_length t)

@@ -11,10 +11,10 @@ ghost use Rattle.draft_slots.specs.Looks.{looked, IsLook, kind_in};
 ghost use Rattle.draft_slots.specs.Peeks.{IsKept};
 
 use crate::names::is_reserved;
-use crate::nodes::{node_position, node_same, node_value};
+use crate::nodes::{copy_key, node_position, node_same, node_value};
 use crate::table::position;
 use node_store::{Cell, Kind, NodeId, Store};
-use run_heap::{Content, DraftFault, Given, Rv};
+use run_heap::{Content, DraftFault, Given, Rv, Table};
 use std::alloc::{AllocError, Global};
 use value_model::{Key, Safe, Text};
 
@@ -95,6 +95,32 @@ impl<'a> Look<'a> {
             Look::Own(content) => &content.table.as_slice()[i].0,
             Look::Node(id, _) => store.key(*id, i),
         }
+    }
+
+    /// A copy of the key of an entry, in a list null.
+    fn copy_key(&self, alloc: Global, store: &Store, i: usize) -> Result<Key, AllocError>
+        requires look { IsLook store.now self.now }
+        requires in_range { i < length (rows_of (looked store.now self.now)) }
+        ensures { IfOk result (λ k. slice_get (spec.keys_of (rows_of (looked store.now self.now))) i ≡ Some k) }
+    {
+        match self {
+            Look::Own(content) => own_key(alloc, content, i),
+            Look::Node(id, _) => copy_key(alloc, store, *id, i),
+        }
+    }
+
+    /// The keys as elements of a list.
+    pub fn keys(&self, alloc: Global, store: &Store) -> Result<Table, AllocError>
+        requires { IsLook store.now self.now }
+        ensures { IfOk result (λ t. t ≡ spec.listed (spec.keys_of (rows_of (looked store.now self.now)))) }
+    {
+        let count = self.count(store);
+        let mut out = Vec::with_capacity(alloc, count)?;
+        for i in 0..count {
+            let key = self.copy_key(alloc, store, i)?;
+            out.push((Key::Null, Rv::Prim(key)))?;
+        }
+        Ok(Table::from_vec(out))
     }
 
     /// The value of an entry as it is kept.
@@ -187,6 +213,13 @@ impl<'a> Look<'a> {
             None => Ok(Rv::Undefined),
         }
     }
+}
+
+fn own_key(alloc: Global, content: &Content, i: usize) -> Result<Key, AllocError>
+    requires { i < length content.now.table }
+    ensures { IfOk result (λ k. slice_get (spec.keys_of content.now.table) i ≡ Some k) }
+{
+    content.table.as_slice()[i].0.copy(alloc)
 }
 
 fn own_value(alloc: Global, content: &Content, i: usize) -> Result<Rv, AllocError>
