@@ -2,6 +2,7 @@ pub mod Fresh
 pub mod Keeping
 pub mod Changed
 pub mod Kept
+pub mod Lists
 pub mod Plans
 pub mod Seen
 pub mod Tables

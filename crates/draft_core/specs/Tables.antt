@@ -1,5 +1,6 @@
 -- The objects that have a table of their own.
 use Rattle.std.specs.Prelude.{◌≡◌, ◌≢◌, ℕ, ◌-◌, ◌<◌, Option, Some, None, nat_lt, if◌then◌else◌, slice_get}
+use Rattle.std.specs.Vec.{vec_capacity, vec_len}
 use Rattle.std.specs.BTreeMap.{get}
 use Rattle.std.specs.Ordering.{nat_cmp}
 use Rattle.run_heap.specs.declared.content.Content.{Content}
@@ -24,3 +25,8 @@ pub record Beside (s t : Scope) : Type 0 where
   pub root : t.root ≡ s.root
   pub len : t.len ≡ s.len
   pub drafts : t.drafts ≡ s.drafts
+
+-- the later objects have as much room as before
+pub record SameRoom (s t : Scope) : Type 0 where
+  pub len : vec_len t.later ≡ vec_len s.later
+  pub capacity : vec_capacity t.later ≡ vec_capacity s.later

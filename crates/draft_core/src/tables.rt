@@ -1,5 +1,5 @@
 //! The objects that have a table of their own.
-ghost use Rattle.std.specs.Prelude.{◌≡◌, ◌≢◌, ◌+◌, ◌-◌, ◌<◌, ◌≤◌, ℕ, List, IfSome, OnOk, OnErr, None, Some, length, get_or, slice_set, slice_index_or, vec_len};
+ghost use Rattle.std.specs.Prelude.{◌≡◌, ◌≢◌, ◌+◌, ◌-◌, ◌<◌, ◌≤◌, ℕ, List, IfSome, OnOk, OnErr, None, Some, length, get_or, slice_set, slice_index_or, vec_len, vec_capacity};
 ghost use Rattle.std.specs.BTreeMap.{get, btree_map_len};
 ghost use Rattle.std.specs.Ordering.{nat_cmp};
 ghost use Rattle.numbered.specs.Tree.{Tree};
@@ -7,7 +7,7 @@ ghost use Rattle.run_heap.specs.Heap.{rewritten, update};
 ghost use Rattle.run_heap.specs.declared.content.Content.{Content as ContentModel};
 ghost use Rattle.draft_slots.specs.Looks.{changed, MayChange};
 ghost use Rattle.draft_core.specs.Seen.{heap, Stands};
-ghost use Rattle.draft_core.specs.Tables.{Beside, HasTable, MayRewrite, own_content};
+ghost use Rattle.draft_core.specs.Tables.{Beside, HasTable, MayRewrite, SameRoom, own_content};
 ghost use Rattle.draft_core.specs.Writes.{slots};
 
 use crate::scope::Scope;
@@ -25,6 +25,7 @@ impl Scope {
         ensures heap { heap store.now self.new ≡ heap store.now self.old }
         ensures stands { Stands store.now self.new }
         ensures own { OnOk result (HasTable self.new name) }
+        ensures room { SameRoom self.old self.new }
         ensures tables { slots self.new ≤ slots self.old + 1 }
     {
         if name >= self.drafts as u64 {
@@ -50,6 +51,7 @@ impl Scope {
         ensures ok { OnOk result (IfSome (own_content self.old name) (λ c. (ts : List Tree) → heap ts self.new ≡ update name (rewritten (changed change.entry c.table) c) (heap ts self.old))) }
         ensures err { OnErr result ((ts : List Tree) → heap ts self.new ≡ heap ts self.old) }
         ensures beside { Beside self.old self.new }
+        ensures room { SameRoom self.old self.new }
         ensures tables { slots self.new ≡ slots self.old }
     {
         if name < self.drafts as u64 {
@@ -94,6 +96,7 @@ fn rewrite_later(
     ensures ok { OnOk result ((d : ContentModel) → later.new.items ≡ slice_set later.old.items at (rewritten (changed change.entry (slice_index_or later.old.items at d).table) (slice_index_or later.old.items at d))) }
     ensures err { OnErr result (later.new.items ≡ later.old.items) }
     ensures len { vec_len later.new ≡ vec_len later.old }
+    ensures capacity { vec_capacity later.new ≡ vec_capacity later.old }
 {
     rewrite(alloc, &mut later[at], change)
 }

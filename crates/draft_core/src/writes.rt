@@ -8,6 +8,7 @@ ghost use Rattle.run_heap.specs.Sound.{Owned, IsObject, AllStored, Grows};
 ghost use Rattle.draft_core.specs.Plans.{Plans, MayRemove};
 ghost use Rattle.draft_core.specs.Seen.{heap, Stands};
 ghost use Rattle.draft_slots.specs.Looks.{changed, MayChange};
+ghost use Rattle.draft_core.specs.Tables.{SameRoom};
 ghost use Rattle.draft_core.specs.Writes.{MayStand, KeepsTable, slots};
 
 use crate::plans::{plan_put, plan_remove};
@@ -169,7 +170,7 @@ impl Scope {
     }
 
     /// Makes a change of an object's table.
-    fn change(
+    pub(crate) fn change(
         &mut self,
         alloc: Global,
         store: &Store,
@@ -183,6 +184,7 @@ impl Scope {
         ensures done { Leaves result (heap store.now self.old) (heap store.now self.new) (rewrite (changed change.entry) (heap store.now self.old) of.now) }
         ensures stands { Stands store.now self.new }
         ensures grows { Grows (heap store.now self.old) (heap store.now self.new) }
+        ensures room { SameRoom self.old self.new }
         ensures tables { slots self.new ≤ slots self.old + 1 }
     {
         match of {

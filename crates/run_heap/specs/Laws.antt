@@ -366,7 +366,7 @@ get_none [] i l = refl
 get_none (c ∷ cs) zero l = absurd (omega arith)
 get_none (c ∷ cs) (suc i) l = get_none cs i (omega arith)
 
-objects_on : (h : Heap) (cs : List Content) → Onwards h (with_objects cs h)
+pub objects_on : (h : Heap) (cs : List Content) → Onwards h (with_objects cs h)
 objects_on h cs = record { scope = refl; states = refl; more = omega arith }
 
 by_age : (P : Option Content → Type 0) (h : Heap) (cs : List Content) (n : ℕ) → (n < h.next → P (h.object n)) → (h.next ≤ n → P (slice_get cs (n - h.next))) → P (if nat_lt n h.next then h.object n else slice_get cs (n - h.next))
