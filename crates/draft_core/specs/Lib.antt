@@ -2,6 +2,8 @@ pub mod Fresh
 pub mod Keeping
 pub mod Changed
 pub mod Kept
+pub mod Marks
+pub mod Paths
 pub mod Plans
 pub mod Seen
 pub mod Tables
