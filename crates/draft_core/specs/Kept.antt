@@ -30,8 +30,9 @@ use Rattle.draft_slots.specs.declared.look.Peek.{Peek}
 use Rattle.draft_slots.specs.declared.look.Peek.TheVariants.{Read, Untouched}
 use Rattle.run_heap.specs.declared.content.Content.{Content}
 use Rattle.run_heap.specs.Heap.{Heap, copied, opened, drafts, is_draft, is_foreign, shown, after, given_content}
-use Rattle.run_heap.specs.Laws.{get_none, no_place, place_within, opened_sound, shown_content, value_stored}
+use Rattle.run_heap.specs.Laws.{right_true, get_none, no_place, place_within, opened_sound, shown_content, value_stored}
 use Rattle.run_heap.specs.Operations as spec
+use Rattle.run_heap.specs.Places.{path_to}
 use Rattle.run_heap.specs.Sound.{IsSound, IsContent, IsContainer, IsObject, IsStored, RowsStored, Owned, ascends}
 use Rattle.draft_core.specs.declared.scope.Scope.{Scope}
 use Rattle.draft_core.specs.Seen.{heap, Stands, IsPeek, kept_heap, kept_object}
@@ -295,3 +296,16 @@ peek_is ts h of (Own c) i (Read v) e k = rw (sym e) k
 peek_is ts h of (Own c) i (Untouched d) e k = absurd k
 peek_is ts h of (Node id g) i (Read v) e k = absurd k
 peek_is ts h of (Node id g) i (Untouched d) e k = (after g (before i (branches_of (tree_at ts id))), ap (λ (o : Option Content). spec.value_at i (spec.rows_of o)) (sym e) ∙ ap (spec.value_at i) (rows_node g (tree_at ts id)) ∙ k)
+
+-- ---- the path of a draft
+pub draft_path : (ts : List Tree) (s : Scope) (v : Rv) (r : ObjRef) → Stands ts s → v ≡ Obj r → path_to r.slot (tree_at ts s.root) ≡ path_to (spec.slot_of v) (tree_at (heap ts s).states (heap ts s).root)
+draft_path ts s v r st is =
+    let whole : path_to (spec.slot_of v) (tree_at (heap ts s).states (heap ts s).root) ≡ path_to r.slot (tree_at (take s.len ts) s.root) = unfold heap in ap (λ (x : Rv). path_to (spec.slot_of x) (tree_at (take s.len ts) s.root)) is in
+    sym (whole ∙ ap (path_to r.slot) (same_tree ts s.len s.root st.root))
+
+pub draft_inside : (ts : List Tree) (s : Scope) (v : Rv) (r : ObjRef) → Stands ts s → v ≡ Obj r → is_draft (heap ts s) v ≡ true → r.slot < containers (tree_at ts s.root)
+draft_inside ts s v r st is d =
+    let low : nat_lt r.slot s.drafts ≡ true = right_true _ _ (draft_is ts s v r st is ∙ d) in
+    let l : r.slot < s.drafts = grind (arith, low) in
+    let count = st.drafts ∙ ap containers (same_tree ts s.len s.root st.root) in
+    omega (arith, l, count)

@@ -1,8 +1,10 @@
+pub mod Changed
 pub mod Fresh
 pub mod Keeping
-pub mod Changed
 pub mod Kept
 pub mod Lists
+pub mod Marks
+pub mod Paths
 pub mod Plans
 pub mod Seen
 pub mod Tables

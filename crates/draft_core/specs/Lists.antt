@@ -19,14 +19,17 @@ items_stored h (v ∷ vs) s = (s.0, items_stored h vs s.1)
 
 pub list_contents : (h : Heap) (vs : List Rv) (c : Content) → c ≡ fresh kind.List (map item vs) → AllStored h vs → AllContents (with_object c h) (c ∷ [])
 list_contents h vs c e s =
-    rw e
-    ((record {
+    rw e (
+      (
+        record {
           ascends = refl;
           stand = items_stand vs;
           stored = rows_on h (with_object (fresh kind.List (map item vs)) h) (map item vs) (objects_on h (fresh kind.List (map item vs) ∷ [])) (items_stored h vs s);
         },
-        tt),
-      tt)
+        tt,
+      ),
+      tt,
+    )
 
 -- ---- over two steps
 all_on : (g h : Heap) (vs : List Rv) → Onwards g h → AllStored g vs → AllStored h vs
