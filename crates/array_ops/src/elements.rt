@@ -1,7 +1,7 @@
 //! The elements of a list.
 ghost use Rattle.std.specs.Prelude.{◌≡◌, ◌≤◌, IfOk, length, slice_get, slice_range};
 ghost use Rattle.run_heap.specs.Operations.{or_undefined, table_of};
-ghost use Rattle.run_heap.specs.Sound.{AllStored, IsContainer};
+ghost use Rattle.run_heap.specs.Sound.{AllStored, Fits, IsContainer};
 ghost use Rattle.draft_core.specs.Seen.{heap, Stands};
 ghost use Rattle.list_rows.specs.Guards.{elements_of};
 
@@ -19,6 +19,7 @@ pub(crate) fn element(
     requires stands { Stands store.now scope.old }
     requires container { IsContainer (heap store.now scope.old) of.now }
     ensures value { IfOk result (λ v. v ≡ or_undefined (slice_get (elements_of (heap store.now scope.old) of.now) i)) }
+    ensures fits { IfOk result (λ v. Fits (heap store.now scope.old) v) }
     ensures same { scope.new ≡ scope.old }
 {
     if i < scope.count(store, of) {

@@ -1,7 +1,7 @@
 //! Calls at the ends of a list.
-ghost use Rattle.std.specs.Prelude.{◌≡◌, ◌≤◌, ◌+◌};
+ghost use Rattle.std.specs.Prelude.{◌≡◌, ◌≤◌, ◌+◌, IfOk};
 ghost use Rattle.run_heap.specs.Answers.{Does};
-ghost use Rattle.run_heap.specs.Sound.{AllOwned, Grows, Owned};
+ghost use Rattle.run_heap.specs.Sound.{AllOwned, Fits, Grows, Owned};
 ghost use Rattle.draft_core.specs.Seen.{heap, Stands};
 ghost use Rattle.draft_core.specs.Writes.{slots};
 ghost use Rattle.list_rows.specs.Calls as spec;
@@ -68,6 +68,7 @@ pub fn pop(alloc: Global, scope: &mut Scope, store: &Store, of: &Rv) -> Result<R
     ensures done { Does result (heap store.now scope.old) (heap store.now scope.new) (spec.pop (heap store.now scope.old) of.now) }
     ensures stands { Stands store.now scope.new }
     ensures grows { Grows (heap store.now scope.old) (heap store.now scope.new) }
+    ensures fits { IfOk result (λ v. Fits (heap store.now scope.new) v) }
     ensures tables { slots scope.new ≤ slots scope.old + 1 }
 {
     let count = writable(scope, store, of, &[])?;
@@ -84,6 +85,7 @@ pub fn shift(alloc: Global, scope: &mut Scope, store: &Store, of: &Rv) -> Result
     ensures done { Does result (heap store.now scope.old) (heap store.now scope.new) (spec.shift (heap store.now scope.old) of.now) }
     ensures stands { Stands store.now scope.new }
     ensures grows { Grows (heap store.now scope.old) (heap store.now scope.new) }
+    ensures fits { IfOk result (λ v. Fits (heap store.now scope.new) v) }
     ensures tables { slots scope.new ≤ slots scope.old + 1 }
 {
     let count = writable(scope, store, of, &[])?;

@@ -1,7 +1,7 @@
 //! Calls on a range of a list.
-ghost use Rattle.std.specs.Prelude.{◌≡◌, ◌≤◌, ◌+◌};
+ghost use Rattle.std.specs.Prelude.{◌≡◌, ◌≤◌, ◌+◌, IfOk};
 ghost use Rattle.run_heap.specs.Answers.{Does};
-ghost use Rattle.run_heap.specs.Sound.{AllOwned, Grows, Owned};
+ghost use Rattle.run_heap.specs.Sound.{AllOwned, Fits, Grows, Owned};
 ghost use Rattle.draft_core.specs.Seen.{heap, Stands};
 ghost use Rattle.draft_core.specs.Writes.{slots};
 ghost use Rattle.list_rows.specs.Calls as spec;
@@ -30,6 +30,7 @@ pub fn splice(
     ensures done { Does result (heap store.now scope.old) (heap store.now scope.new) (spec.splice start count items.now (heap store.now scope.old) of.now) }
     ensures stands { Stands store.now scope.new }
     ensures grows { Grows (heap store.now scope.old) (heap store.now scope.new) }
+    ensures fits { IfOk result (λ v. Fits (heap store.now scope.new) v) }
     ensures tables { slots scope.new ≤ slots scope.old + 2 }
 {
     let len = writable(scope, store, of, items)?;
@@ -57,6 +58,7 @@ pub fn slice(
     ensures done { Does result (heap store.now scope.old) (heap store.now scope.new) (spec.slice start end (heap store.now scope.old) of.now) }
     ensures stands { Stands store.now scope.new }
     ensures grows { Grows (heap store.now scope.old) (heap store.now scope.new) }
+    ensures fits { IfOk result (λ v. Fits (heap store.now scope.new) v) }
     ensures tables { slots scope.new ≤ slots scope.old + 1 }
 {
     let len = readable(scope, store, of, &[])?;

@@ -17,7 +17,9 @@ use Rattle.run_heap.specs.declared.fault.DraftFault.{DraftFault}
 use Rattle.run_heap.specs.declared.fault.DraftFault.TheVariants as fault
 use Rattle.run_heap.specs.Heap.{Heap, fresh, next_object, shown, with_object, write_table}
 use Rattle.run_heap.specs.Operations.{Rows, edited, is_undefined, item, kind_of, or_undefined, rewrite_shown, rows_of, splice_at, spliced, table_of, then_list, value_at}
-use Rattle.run_heap.specs.Sound.{IsObject, IsSound, IsContent, IsStored, AllStored, all_stand}
+use Rattle.numbered.specs.Store.{IsNumber}
+use Rattle.numbered.specs.Tree.{Tree}
+use Rattle.run_heap.specs.Sound.{Fits, Grows, IsObject, IsSound, IsContent, IsStored, AllStored, all_stand}
 use Rattle.run_heap.specs.Values.{same}
 use Rattle.list_rows.specs.Calls.{elements, items, on_list, relative, end_at, removed, is_past, natural, pushed, unshifted, popped, shifted, turned, cut_to, spliced_at, answer_list, splice, sliced, slice, index_or, index_of, includes}
 use Rattle.list_rows.specs.Guards.{elements_of, with_elements, readable, writable, IsReadable, IsWritable, row_done, row_refused, row_stopped, read_done, read_refused}
@@ -280,3 +282,19 @@ module _ (v : Rv) (h : Heap) (of : Rv) where
 
   pub includes_row : (n : ℕ) (r : Option ℕ) → IsReadable h of (v ∷ []) n → r ≡ position (λ x. same x v) (elements_of h of) → includes v h of ≡ Ok (is_some r)
   includes_row n r w p = read_done (λ xs. list_any (λ x. same x v) xs) h of (v ∷ []) (elements_of h of) w.found ∙ (λ i. Ok ((any_found v (elements_of h of) ∙ ap is_some (sym p)) i))
+
+-- ---- what is answered is a value of the heap that is left
+pub fits_on : (g h : Heap) (v : Rv) → Grows g h → Fits g v → Fits h v
+fits_on g h Undefined w f = tt
+fits_on g h (Prim k) w f = tt
+fits_on g h (Obj r) w f = let more = w.more in let low = f.1 in (f.0 ∙ sym w.scope, omega (arith, more, low))
+fits_on g h (Frozen id) w f = subst (λ (ts : List Tree). IsNumber ts id) (sym w.states) f
+
+fresh_fits : (c : Content) (g : Heap) → Fits (with_object c g) (next_object g)
+fresh_fits c g = (refl, omega arith)
+
+pub made_fits : (c : Content) (g h : Heap) (v : Rv) → h ≡ with_object c g → v ≡ next_object g → Fits h v
+made_fits c g h v p q = rw (p, q) (fresh_fits c g)
+
+pub spliced_next : (h : Heap) (of : Rv) (from to : ℕ) (vs : List Rv) → next_object (splice_at from to vs h of) ≡ next_object h
+spliced_next h of from to vs = same_next (spliced from to vs) h of (shown h of)
