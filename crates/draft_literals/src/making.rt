@@ -1,6 +1,8 @@
-ghost use Rattle.std.specs.Prelude.{◌≡◌, ◌+◌, ◌^◌, ◌<◌, ◌++◌, ◌∷◌, [], IfOk, length, map};
+ghost use Rattle.std.specs.Prelude.{◌≡◌, ◌+◌, ◌^◌, ◌<◌, ◌++◌, ◌∷◌, [], IfOk, IsTrue, length, map};
+ghost use Rattle.std.specs.FinMap.Entries.{is_sorted};
+ghost use Rattle.value_model.specs.Order.{key_cmp};
 ghost use Rattle.value_model.specs.declared.words.Kind.TheVariants as kind;
-ghost use Rattle.values.specs.Seen.{of_fields, of_items, of_entries, of_members};
+ghost use Rattle.values.specs.Seen.{of_field, of_entry, of_member, of_fields, of_items, of_entries, of_members};
 ghost use Rattle.numbered.specs.Loading.{places, places_in};
 ghost use Rattle.value_model.specs.Plain.{node as container};
 ghost use Rattle.draft_literals.specs.Making.{IsMade, AreMade, IsObjectMade, member};
@@ -41,7 +43,8 @@ fn literal_object(
     fields: &Vec<Field>,
     out: &mut Vec<Content>,
 ) -> Result<Rv, AllocError>
-    requires { first + length out.old.items + (1 + places_in (of_fields fields.now.items)) < 2 ^ 64 }
+    requires room { first + length out.old.items + (1 + places_in (of_fields fields.now.items)) < 2 ^ 64 }
+    requires sorted { IsTrue (is_sorted key_cmp (map of_field fields.now.items)) }
     ensures { IfOk result (λ w. IsMade scope first (container kind.Obj (of_fields fields.now.items)) out.old.items out.new.items w) }
 {
     let table = literal_fields(alloc, scope, first, fields, out)?;
@@ -109,7 +112,8 @@ fn literal_map(
     entries: &Vec<Entry>,
     out: &mut Vec<Content>,
 ) -> Result<Rv, AllocError>
-    requires { first + length out.old.items + (1 + places_in (of_entries entries.now.items)) < 2 ^ 64 }
+    requires room { first + length out.old.items + (1 + places_in (of_entries entries.now.items)) < 2 ^ 64 }
+    requires sorted { IsTrue (is_sorted key_cmp (map of_entry entries.now.items)) }
     ensures { IfOk result (λ w. IsMade scope first (container kind.Map (of_entries entries.now.items)) out.old.items out.new.items w) }
 {
     let table = literal_entries(alloc, scope, first, entries, out)?;
@@ -142,7 +146,8 @@ fn literal_set(
     members: &Vec<Key>,
     out: &mut Vec<Content>,
 ) -> Result<Rv, AllocError>
-    requires { first + length out.old.items + 1 < 2 ^ 64 }
+    requires room { first + length out.old.items + 1 < 2 ^ 64 }
+    requires sorted { IsTrue (is_sorted key_cmp (map of_member members.now.items)) }
     ensures { IfOk result (λ w. IsMade scope first (container kind.Set (of_members members.now.items)) out.old.items out.new.items w) }
 {
     let table = member_entries(alloc, members)?;

@@ -1,7 +1,11 @@
-use Rattle.std.proofs.Common.{◌≡◌, ◌+◌, ◌≤◌, ap, refl, arith, drop, subst, sym}
+use Rattle.std.proofs.Common.{◌≡◌, ◌+◌, ◌≤◌, ap, refl, arith, drop, map, ◌∙◌}
 use Rattle.value_model.specs.declared.key.Key.TheVariants as key
 use Rattle.value_model.specs.declared.words.Kind.TheVariants as kind
+use Rattle.std.specs.FinMap.Entries.{is_sorted}
+use Rattle.value_model.specs.Order.{key_cmp}
 use Rattle.value_model.specs.Plain.{values_in}
+use Rattle.value_model.specs.Steps.{list_of_entries}
+use Rattle.values.specs.Fits.{fields_fit, items_fit, entries_fit}
 use Rattle.values.specs.Seen.{of_field, of_item, of_entry, of_fields, of_items, of_entries}
 use Rattle.draft_literals.specs.Making.{next_is, none_left, making_room, making_next, made_all, values_fall, container_ok, container_room}
 use Rattle.draft_literals.proofs.making.+literals.Goals as goal
@@ -37,10 +41,10 @@ literal_fields-returns t c =
 
 -- ---- literal_object
 pub literal_object-object-requires : goal.literal_object-object-requires
-literal_object-object-requires t c = container_room c.args.scope c.args.first (of_fields c.args.fields.now.items) c.args.out.now.items c.literal_fields.new.out.items c.in_ok-table.table.items c.in_ok-table.ensures c.requires
+literal_object-object-requires t c = container_room c.args.scope c.args.first (of_fields c.args.fields.now.items) c.args.out.now.items c.literal_fields.new.out.items c.in_ok-table.table.items c.in_ok-table.ensures c.requires.room
 
 pub literal_object-returns : goal.literal_object-returns
-literal_object-returns t c = container_ok c.object.result c.args.scope c.args.first kind.Obj (of_fields c.args.fields.now.items) c.args.out.now.items c.literal_fields.new.out.items c.object.new.out.items c.in_ok-table.table.items c.in_ok-table.ensures c.object.ensures
+literal_object-returns t c = container_ok c.object.result c.args.scope c.args.first kind.Obj (of_fields c.args.fields.now.items) c.args.out.now.items c.literal_fields.new.out.items c.object.new.out.items c.in_ok-table.table.items (ap (is_sorted key_cmp) (list_of_entries (map of_field c.args.fields.now.items)) ∙ c.requires.sorted) (fields_fit c.args.fields.now.items) c.in_ok-table.ensures c.object.ensures
 
 -- ---- literal_items
 pub literal_items-literals-requires : goal.literal_items-literals-requires
@@ -76,7 +80,7 @@ pub literal_list-object-requires : goal.literal_list-object-requires
 literal_list-object-requires t c = container_room c.args.scope c.args.first (of_items c.args.items.now.items) c.args.out.now.items c.literal_items.new.out.items c.in_ok-table.table.items c.in_ok-table.ensures c.requires
 
 pub literal_list-returns : goal.literal_list-returns
-literal_list-returns t c = container_ok c.object.result c.args.scope c.args.first kind.List (of_items c.args.items.now.items) c.args.out.now.items c.literal_items.new.out.items c.object.new.out.items c.in_ok-table.table.items c.in_ok-table.ensures c.object.ensures
+literal_list-returns t c = container_ok c.object.result c.args.scope c.args.first kind.List (of_items c.args.items.now.items) c.args.out.now.items c.literal_items.new.out.items c.object.new.out.items c.in_ok-table.table.items refl (items_fit c.args.items.now.items) c.in_ok-table.ensures c.object.ensures
 
 -- ---- literal_entries
 pub literal_entries-literals-requires : goal.literal_entries-literals-requires
@@ -109,7 +113,7 @@ literal_entries-returns t c =
 
 -- ---- literal_map
 pub literal_map-object-requires : goal.literal_map-object-requires
-literal_map-object-requires t c = container_room c.args.scope c.args.first (of_entries c.args.entries.now.items) c.args.out.now.items c.literal_entries.new.out.items c.in_ok-table.table.items c.in_ok-table.ensures c.requires
+literal_map-object-requires t c = container_room c.args.scope c.args.first (of_entries c.args.entries.now.items) c.args.out.now.items c.literal_entries.new.out.items c.in_ok-table.table.items c.in_ok-table.ensures c.requires.room
 
 pub literal_map-returns : goal.literal_map-returns
-literal_map-returns t c = container_ok c.object.result c.args.scope c.args.first kind.Map (of_entries c.args.entries.now.items) c.args.out.now.items c.literal_entries.new.out.items c.object.new.out.items c.in_ok-table.table.items c.in_ok-table.ensures c.object.ensures
+literal_map-returns t c = container_ok c.object.result c.args.scope c.args.first kind.Map (of_entries c.args.entries.now.items) c.args.out.now.items c.literal_entries.new.out.items c.object.new.out.items c.in_ok-table.table.items (ap (is_sorted key_cmp) (list_of_entries (map of_entry c.args.entries.now.items)) ∙ c.requires.sorted) (entries_fit c.args.entries.now.items) c.in_ok-table.ensures c.object.ensures

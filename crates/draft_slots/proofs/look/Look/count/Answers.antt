@@ -1,4 +1,4 @@
-use Rattle.std.proofs.Common.{◌≡◌, ◌∙◌, sym}
+use Rattle.std.proofs.Common.{◌∙◌, sym}
 use Rattle.numbered.specs.Store.{tree_at}
 use Rattle.draft_slots.specs.LookFacts.{count_node}
 use Rattle.draft_slots.proofs.look.Look.count.Goals as goal
