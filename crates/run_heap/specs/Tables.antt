@@ -1,12 +1,10 @@
 -- Tables that objects may have, after an entry is set or removed, and after elements are replaced.
-use Rattle.std.proofs.Common.{◌≡◌, ◌≢◌, ℕ, zero, suc, ◌≤◌, List, [], ◌∷◌, ◌++◌, length, map, take, drop, refl, ap, sym, ◌∙◌, subst, arith, Bool, true, false, not, cond, Less, Equal, Greater}
-use Rattle.std.specs.Prelude.{◌&&◌, ◌==◌, IsTrue, slice_set, if◌then◌else◌}
+use Rattle.std.proofs.Common.{◌≡◌, ℕ, zero, suc, List, [], ◌∷◌, ◌++◌, length, map, take, drop, refl, sym, subst, Bool, true, false, not, cond, Less, Equal, Greater}
+use Rattle.std.specs.Prelude.{◌&&◌, ◌==◌, slice_set, if◌then◌else◌}
 use Rattle.std.specs.FinMap.Entries.{put, where_key, is_sorted, by_order, is_sorted-put, is_sorted-where_key}
 use Rattle.std.specs.Ordering.{eq_by_cmp}
-use Rattle.std.specs.declared.cmp.Ordering.{Ordering}
 use lib.Dec.{T}
 use Rattle.value_model.specs.declared.key.Key.{Key}
-use Rattle.value_model.specs.declared.key.Key.TheVariants as key
 use Rattle.value_model.specs.declared.words.Kind.{Kind}
 use Rattle.value_model.specs.declared.words.Kind.TheVariants as kind
 use Rattle.value_model.specs.Order.{key_cmp, key_total, key_exact}

@@ -1,4 +1,4 @@
-use Rattle.std.proofs.Common.{◌≡◌, ◌∙◌, sym, arith}
+use Rattle.std.proofs.Common.{◌∙◌, sym, arith}
 use Rattle.numbered.specs.Store.{tree_at}
 use Rattle.draft_slots.specs.LookFacts.{count_node, few_cells}
 use Rattle.draft_slots.proofs.look.Look.count.Goals as goal

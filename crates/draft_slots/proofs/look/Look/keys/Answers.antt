@@ -1,7 +1,4 @@
-use Rattle.std.proofs.Common.{◌≡◌, ◌∙◌, ap, sym, arith, ◌≤◌}
-use Rattle.std.specs.Prelude.{Option, Some, slice_get}
-use Rattle.value_model.specs.declared.key.Key.{Key}
-use Rattle.run_heap.specs.declared.value.Rv.{Rv}
+use Rattle.std.proofs.Common.{◌∙◌, arith}
 use Rattle.run_heap.specs.declared.value.Rv.TheVariants.{Prim}
 use Rattle.run_heap.specs.Operations.{listed, keys_of, rows_of, item}
 use Rattle.draft_slots.specs.Looks.{looked}
