@@ -3,7 +3,7 @@ use Rattle.std.proofs.Common.{◌≡◌, ◌≢◌, ℕ, zero, suc, ◌<◌, Lis
 use Rattle.std.proofs.Math.Seq.{drop-nil}
 use Rattle.std.proofs.lemmas.List.{append-nil, append_assoc}
 use Rattle.std.specs.Ordering.{is_eq}
-use Rattle.std.specs.Prelude.{Option, Some, None, option_map, slice_get, Ok, ◌+◌, ◌≤◌, if◌then◌else◌}
+use Rattle.std.specs.Prelude.{◌^◌, Option, Some, None, option_map, slice_get, Ok, ◌+◌, ◌≤◌, if◌then◌else◌}
 use Rattle.std.specs.FinMap.Entries.{find}
 use Rattle.value_model.specs.declared.key.Key.{Key}
 use Rattle.value_model.specs.declared.key.Key.TheVariants as key
