@@ -2,6 +2,7 @@ pub mod Fresh
 pub mod Keeping
 pub mod Changed
 pub mod Kept
+pub mod Literals
 pub mod Marks
 pub mod Paths
 pub mod Plans

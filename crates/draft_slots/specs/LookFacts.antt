@@ -120,7 +120,6 @@ drop_all (e ∷ all) (suc n) l = drop_all all n (omega arith)
 pub all_there : (t all : Rows) (n : ℕ) → length all ≤ n → t ++ drop n all ≡ all → t ≡ all
 all_there t all n l w = sym (append-nil t) ∙ ap (λ (x : Rows). t ++ x) (sym (drop_all all n l)) ∙ w
 
-
 -- ---- a look shows a kind
 some_kind : (o : Option Content) (c : Content) → o ≡ Some c → Some (kind_in o) ≡ option_map (λ (d : Content). d.kind) o
 some_kind o c h = rw h refl

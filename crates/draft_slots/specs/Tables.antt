@@ -267,9 +267,9 @@ spliced_differs t from to vs a b =
     let whole : t ≡ take from t ++ (r ++ drop to t) = sym (split_range t from to a b) in
     elim (length r == length ys) as (λ x. (length r == length ys) ≡ x → same_tables t (take from t ++ (ys ++ drop to t)) ≡ same_tables r ys) [
       | true ↦ λ p. let l : length r ≡ length ys = grind (arith, p) in
-        ap (λ (u : Rows). same_tables u (take from t ++ (ys ++ drop to t))) whole ∙ same_front (take from t) (r ++ drop to t) (ys ++ drop to t) ∙ same_back r ys (drop to t) l
+          ap (λ (u : Rows). same_tables u (take from t ++ (ys ++ drop to t))) whole ∙ same_front (take from t) (r ++ drop to t) (ys ++ drop to t) ∙ same_back r ys (drop to t) l
       | false ↦ λ p. let l : length r ≢ length ys = grind (arith, p) in
-        other_length t (take from t ++ (ys ++ drop to t)) (λ q. l (range_length t r ys from to a b q)) ∙ sym (other_length r ys (λ q. l (sym q)))
+          other_length t (take from t ++ (ys ++ drop to t)) (λ q. l (range_length t r ys from to a b q)) ∙ sym (other_length r ys (λ q. l (sym q)))
     ] refl
 
 pub cleared_differs : (t : Rows) → not (length t == 0) ≡ not (same_tables t [])

@@ -175,13 +175,7 @@ impl<'a> Look<'a> {
     }
 
     /// An object's value by a text.
-    fn member(
-        &self,
-        alloc: Global,
-        store: &Store,
-        key: &Key,
-        text: &Text,
-    ) -> Result<Rv, DraftFault>
+    fn member(&self, alloc: Global, store: &Store, key: &Key, text: &Text) -> Result<Rv, DraftFault>
         requires look { IsLook store.now self.now }
         requires object { kind_in (looked store.now self.now) ≡ kind.Obj }
         requires text { key.now ≡ key_model.Text text.now }
