@@ -24,6 +24,10 @@ use Rattle.run_heap.specs.declared.content.Content.{Content}
 use Rattle.run_heap.specs.Heap.{Heap, with_objects}
 use Rattle.run_heap.specs.Laws.{AllContents, left_true, right_true, left_false, right_false, value_long, value_reserved}
 use Rattle.run_heap.specs.Operations.{Rows, named_value, named_table, literal, literals, with_plain, plain_value as value_of}
+use Rattle.draft_literals.specs.Making.{IsMade}
+use Rattle.draft_core.specs.declared.scope.Scope.{Scope}
+use Rattle.draft_core.specs.Kept.{scope_is, next_is}
+use Rattle.draft_core.specs.Seen.{heap}
 use Rattle.run_heap.specs.Sound.{IsStored, RowsStored, IsTable, all_stand, ascends}
 
 -- ---- the keys of a literal are the value's
@@ -123,3 +127,15 @@ pub plain_contents : (h : Heap) (v : Plain) → well v ≡ true → value_limit 
 plain_contents h v w l =
     let count : length (literals h v) ≡ places v = length-map (post_order (numbered h.next v)) (literal h.scope) ∙ length_post (numbered h.next v) ∙ containers_numbered h.next v in
     literals_stand (with_plain v h) h.next v w (value_long v l) (value_reserved v l) (omega (arith, count))
+
+-- ---- what was made is what the table of operations says
+pub made_literals : (ts : List Tree) (s : Scope) (first : ℕ) (v : Plain) (old new : List Content) (w : Rv) → first ≡ s.drafts + length s.later.items → old ≡ [] → IsMade s.number first v old new w → record { objects : new ≡ literals (heap ts s) v; value : w ≡ value_of (heap ts s) v }
+made_literals ts s first v old new w f nothing m =
+    let l = ap length nothing in
+    let next = next_is ts s in
+    let name : first + length old ≡ (heap ts s).next = omega (arith, f, l, next) in
+    let scope = sym (scope_is ts s) in
+    record {
+      objects = m.0 ∙ (λ i. nothing i ++ map (literal (scope i)) (post_order (numbered (name i) v)));
+      value = m.1 ∙ (λ i. named_value (scope i) (numbered (name i) v));
+    }
