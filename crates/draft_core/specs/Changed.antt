@@ -175,7 +175,7 @@ module _ (s t : Scope) (b : Beside s t) (n : ℕ) (change : Change) where
   rewrote_draft r later others l h =
       on_ok r (IfSome (get nat_cmp s.touched n) (λ c. get nat_cmp t.touched n ≡ Some (changed_content change c))) Rewrote h
       (λ w. if_some (own_content s n) (get nat_cmp s.touched n) (λ c. get nat_cmp t.touched n ≡ Some (changed_content change c)) (λ c. (ts : List Tree) → heap ts t ≡ update n (changed_content change c) (heap ts s)) (own_draft s n l) w
-        (λ c is here ts. heap_draft ts s t b later n others (changed_content change c) l here))
+      (λ c is here ts. heap_draft ts s t b later n others (changed_content change c) l here))
 
   later_each : (r : (d : Content) → t.later.items ≡ set s.later.items (n - s.drafts) (changed_content change (get_or s.later.items (n - s.drafts) d))) → t.touched ≡ s.touched → s.drafts ≤ n → n - s.drafts < length s.later.items → (c : Content) → slice_get s.later.items (n - s.drafts) ≡ Some c → (ts : List Tree) → heap ts t ≡ update n (changed_content change c) (heap ts s)
   later_each r touched low l c is ts =
@@ -186,7 +186,7 @@ module _ (s t : Scope) (b : Beside s t) (n : ℕ) (change : Change) where
   rewrote_later r touched low l h =
       on_ok r ((d : Content) → t.later.items ≡ set s.later.items (n - s.drafts) (changed_content change (get_or s.later.items (n - s.drafts) d))) Rewrote h
       (λ w. if_some (own_content s n) (slice_get s.later.items (n - s.drafts)) (λ c. Unit {0}) (λ c. (ts : List Tree) → heap ts t ≡ update n (changed_content change c) (heap ts s)) (own_later s n low) (any_some (slice_get s.later.items (n - s.drafts)))
-        (λ c is u. later_each w touched low l c is))
+      (λ c is u. later_each w touched low l c is))
 
 get_below : (cs : List Content) (i : ℕ) (P : Option Content → Type 0) → P (slice_get cs i) → (P None → ⊥) → i < length cs
 get_below [] i P p f = absurd (f p)

@@ -107,8 +107,8 @@ mutual
   all_literals_stand h of n (plain_value.entry k v es) w l r le =
       subst (AllContents h) (sym (map-append (literal h.scope) (post_order (numbered n v)) (post_orders (numbered_in (n + places v) es))))
       (contents_append h (map (literal h.scope) (post_order (numbered n v))) _
-        (literals_stand h n v (left_true _ _ w) (right_false _ _ (left_false _ _ l)) (reserved_inside of k v es r) (omega (arith, le)))
-        (all_literals_stand h of (n + places v) es (right_true _ _ w) (right_false _ _ l) (reserved_after of k v es r) (omega (arith, le))))
+      (literals_stand h n v (left_true _ _ w) (right_false _ _ (left_false _ _ l)) (reserved_inside of k v es r) (omega (arith, le)))
+      (all_literals_stand h of (n + places v) es (right_true _ _ w) (right_false _ _ l) (reserved_after of k v es r) (omega (arith, le))))
 
 -- ---- a value that may be an object's
 light_value : (v : Plain) → value_limit v ≡ None → plain_value.weight v ≤ 2 ^ 20

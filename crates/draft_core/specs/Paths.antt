@@ -59,12 +59,12 @@ keys_there (branch k w es) (suc i) v h P f = keys_there es i v h P f
 -- one step further: the steps so far and the path that is left are the whole path
 pub path_further : (t v : Tree) (all steps more : List Key) (n i : ℕ) (k : Key) → 1 ≤ n → IsStep t i k → slice_get (children (branches_of t)) i ≡ Some v → before i (branches_of t) ≤ n - 1 → n - 1 < before i (branches_of t) + containers v → more ≡ steps ++ k ∷ [] → steps ++ path_to n t ≡ all → more ++ path_to (n - 1 - before i (branches_of t)) v ≡ all
 path_further t v all steps more n i k one s q a b e w = keys_there (branches_of t) i v q _ (λ j p.
-  let whole = path_node t n i j v one p q a b in
-  let is = s j p in
-  ap (λ (xs : List Key). xs ++ path_to (n - 1 - before i (branches_of t)) v) e
-  ∙ append_assoc steps (k ∷ []) (path_to (n - 1 - before i (branches_of t)) v)
-  ∙ ap (λ (x : Key). steps ++ x ∷ path_to (n - 1 - before i (branches_of t)) v) is
-  ∙ ap (λ (xs : List Key). steps ++ xs) (sym whole) ∙ w)
+    let whole = path_node t n i j v one p q a b in
+    let is = s j p in
+    ap (λ (xs : List Key). xs ++ path_to (n - 1 - before i (branches_of t)) v) e
+    ∙ append_assoc steps (k ∷ []) (path_to (n - 1 - before i (branches_of t)) v)
+    ∙ ap (λ (x : Key). steps ++ x ∷ path_to (n - 1 - before i (branches_of t)) v) is
+    ∙ ap (λ (xs : List Key). steps ++ xs) (sym whole) ∙ w)
 
 pub path_ends : (t : Tree) (all steps : List Key) (n : ℕ) → n ≤ 0 → steps ++ path_to n t ≡ all → steps ≡ all
 path_ends (prim k) all steps n z w = sym (append-nil steps) ∙ w

@@ -114,12 +114,7 @@ fn is_undefined(v: &Rv) -> bool
 }
 
 /// Whether an object's entry may be removed.
-pub fn plan_remove(
-    store: &Store,
-    look: &Look,
-    of: &Rv,
-    key: &Key,
-) -> Result<(), DraftFault>
+pub fn plan_remove(store: &Store, look: &Look, of: &Rv, key: &Key) -> Result<(), DraftFault>
     requires { IsLook store.now look.now }
     ensures { result ≡ remove_plan key.now (spec.is_frozen of.now) (kind_in (looked store.now look.now)) }
 {

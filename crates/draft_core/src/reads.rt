@@ -218,7 +218,12 @@ impl Scope {
     }
 
     /// The path of a draft in the opening state, None exactly for what isn't a draft.
-    pub fn place_of(&self, alloc: Global, store: &Store, of: &Rv) -> Result<Option<Path>, AllocError>
+    pub fn place_of(
+        &self,
+        alloc: Global,
+        store: &Store,
+        of: &Rv,
+    ) -> Result<Option<Path>, AllocError>
         requires { Stands store.now self.now }
         ensures { IfOk result (λ p. p ≡ places.place_of (heap store.now self.now) of.now) }
     {
@@ -256,9 +261,7 @@ fn any_marked(touched: &BTreeMap<u64, Content>, drafts: u32) -> bool
     ensures marks { result ≡ list_any (λ e. nat_lt e.0 drafts && e.1.written) touched.now.entries }
     ensures found { All (λ e. get nat_cmp touched.now e.0 ≡ Some e.1) touched.now.entries }
 {
-    touched
-        .iter()
-        .any(|(name, content)| (*name < drafts as u64) & content.written)
+    touched.iter().any(|(name, content)| (*name < drafts as u64) & content.written)
 }
 
 /// The path of the n-th container place of a state.

@@ -51,14 +51,15 @@ pub container_made : (scope first : ℕ) (kind : Kind) (es : Entries) (old mid n
 container_made scope first kind es old mid new t w sorted fit m o =
     let bs = numbered_in (first + length old) es in
     let l = longer scope first es old mid t m in
-    let name : first + length mid ≡ first + length old + places_in es = omega (arith, l) in
-    (o.0
-      ∙ ap (λ (cs : List Content). cs ++ fresh kind t ∷ []) m.0
-      ∙ append_assoc old (map (literal scope) (post_orders bs)) (fresh kind t ∷ [])
-      ∙ ap (λ (u : Rows). old ++ (map (literal scope) (post_orders bs) ++ fresh kind u ∷ [])) m.1
-      ∙ ap (λ (cs : List Content). old ++ cs) (sym (map-append (literal scope) (post_orders bs) (Rattle.numbered.specs.Tree.node (first + length old + places_in es) kind bs ∷ []))),
+    let name : first + length mid ≡ first + length old + places_in es = omega (arith, l) in (
+      o.0
+          ∙ ap (λ (cs : List Content). cs ++ fresh kind t ∷ []) m.0
+          ∙ append_assoc old (map (literal scope) (post_orders bs)) (fresh kind t ∷ [])
+          ∙ ap (λ (u : Rows). old ++ (map (literal scope) (post_orders bs) ++ fresh kind u ∷ [])) m.1
+          ∙ ap (λ (cs : List Content). old ++ cs) (sym (map-append (literal scope) (post_orders bs) (Rattle.numbered.specs.Tree.node (first + length old + places_in es) kind bs ∷ []))),
       o.1 ∙ ap (λ (n : ℕ). Obj (record { scope = scope; slot = n })) name,
-      rw (sorted, fit) m.2)
+      rw (sorted, fit) m.2,
+    )
 
 -- ---- entries in turn
 pub record IsMaking (scope first : ℕ) (all : Entries) (old now : List Content) (t : Rows) (rest : Entries) : Type 0 where
@@ -77,13 +78,13 @@ making_step scope first all old now next t u k v rest w m o e =
     let tail = post_orders (numbered_in (n + places v) rest) in
     record {
       objects = (λ i. o.0 i ++ map (literal scope) (post_orders (numbered_in (name i) rest)))
-        ∙ append_assoc now (map (literal scope) (post_order (numbered n v))) (map (literal scope) tail)
-        ∙ ap (λ (cs : List Content). now ++ cs) (sym (map-append (literal scope) (post_order (numbered n v)) tail))
-        ∙ m.objects;
+          ∙ append_assoc now (map (literal scope) (post_order (numbered n v))) (map (literal scope) tail)
+          ∙ ap (λ (cs : List Content). now ++ cs) (sym (map-append (literal scope) (post_order (numbered n v)) tail))
+          ∙ m.objects;
       table = (λ i. e i ++ named_table scope (numbered_in (name i) rest))
-        ∙ append_assoc t ((k, w) ∷ []) (named_table scope (numbered_in (n + places v) rest))
-        ∙ ap (λ (x : Rv). t ++ (k, x) ∷ named_table scope (numbered_in (n + places v) rest)) o.1
-        ∙ m.table;
+          ∙ append_assoc t ((k, w) ∷ []) (named_table scope (numbered_in (n + places v) rest))
+          ∙ ap (λ (x : Rv). t ++ (k, x) ∷ named_table scope (numbered_in (n + places v) rest)) o.1
+          ∙ m.table;
       room = omega (arith, long, room);
       well = λ h. m.well (rw o.2 h);
     }

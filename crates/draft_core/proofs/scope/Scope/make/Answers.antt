@@ -31,9 +31,10 @@ returns-in_err-push-clause-grows c = λ ts st.
 pub returns-clause-done : goal.returns-clause-done
 returns-clause-done c = λ ts st.
     let s = c.args.self.now in
-    let long : c.len.result ≡ length s.later.items = c.len.ensures ∙ s.later.ok.0 in
-    (heap_made ts s _ (c.args.content ∷ []) (record { number = refl; root = refl; len = refl; drafts = refl }) refl c.in_ok-push.ensures.items,
-      next_made ts s _ (ap (λ (n : ℕ). s.drafts + n) long))
+    let long : c.len.result ≡ length s.later.items = c.len.ensures ∙ s.later.ok.0 in (
+      heap_made ts s _ (c.args.content ∷ []) (record { number = refl; root = refl; len = refl; drafts = refl }) refl c.in_ok-push.ensures.items,
+      next_made ts s _ (ap (λ (n : ℕ). s.drafts + n) long),
+    )
 
 pub returns-clause-stands : goal.returns-clause-stands
 returns-clause-stands c = λ ts st.
