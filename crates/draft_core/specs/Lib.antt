@@ -3,6 +3,7 @@ pub mod Fresh
 pub mod Keeping
 pub mod Kept
 pub mod Lists
+pub mod Literals
 pub mod Marks
 pub mod Paths
 pub mod Plans

@@ -13,6 +13,7 @@ ghost use Rattle.draft_core.specs.Seen.{heap, Stands};
 ghost use Rattle.draft_core.specs.Writes.{slots};
 
 use crate::scope::Scope;
+use draft_literals::literals;
 use node_store::{Kind, Store};
 use run_heap::{Content, DraftFault, ObjRef, Rv, Table};
 use std::alloc::{AllocError, Global};
@@ -114,6 +115,10 @@ impl Scope {
         ensures stands { (ts : List Tree) → Stands ts self.old → Stands ts self.new }
         ensures grows { (ts : List Tree) → Stands ts self.old → Grows (heap ts self.old) (heap ts self.new) }
     {
-        Err(AllocError)
+        let first = self.drafts as u64 + self.later.len() as u64;
+        let mut made = Vec::new(alloc);
+        let value = literals(alloc, self.number, first, v, &mut made)?;
+        self.later.append(&mut made)?;
+        Ok(value)
     }
 }

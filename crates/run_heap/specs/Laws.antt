@@ -37,11 +37,11 @@ pub right_true : (a b : Bool) → (a && b) ≡ true → b ≡ true
 right_true true b h = h
 right_true false b h = absurd (cc)
 
-left_false : (a b : Bool) → (a || b) ≡ false → a ≡ false
+pub left_false : (a b : Bool) → (a || b) ≡ false → a ≡ false
 left_false true b h = h
 left_false false b h = refl
 
-right_false : (a b : Bool) → (a || b) ≡ false → b ≡ false
+pub right_false : (a b : Bool) → (a || b) ≡ false → b ≡ false
 right_false true b h = absurd (cc)
 right_false false b h = h
 
@@ -189,7 +189,7 @@ stored_given h at (branch k (prim j) es) le = (tt, stored_given h (at + 0) es (o
 stored_given h at (branch k (node id of ds) es) le = ((refl, omega arith), stored_given h (at + containers (node id of ds)) es (omega arith))
 
 -- ---- an accepted value's keys
-value_long : (v : Plain) → value_limit v ≡ None → has_long_key v ≡ false
+pub value_long : (v : Plain) → value_limit v ≡ None → has_long_key v ≡ false
 value_long v = elim (nat_lt 32 (plain_value.depth v)) as (λ a. (if a then Some limit.TooDeep else (if nat_lt (2 ^ 20) (plain_value.weight v) then Some limit.TooBig else (if has_long_key v then Some limit.KeyTooLong else (if has_reserved_key v then Some limit.ReservedKey else None)))) ≡ None → has_long_key v ≡ false) [
   | true ↦ λ h. absurd (cc)
   | false ↦ elim (nat_lt (2 ^ 20) (plain_value.weight v)) as (λ a. (if a then Some limit.TooBig else (if has_long_key v then Some limit.KeyTooLong else (if has_reserved_key v then Some limit.ReservedKey else None))) ≡ None → has_long_key v ≡ false) [
@@ -201,7 +201,7 @@ value_long v = elim (nat_lt 32 (plain_value.depth v)) as (λ a. (if a then Some 
   ]
 ]
 
-value_reserved : (v : Plain) → value_limit v ≡ None → has_reserved_key v ≡ false
+pub value_reserved : (v : Plain) → value_limit v ≡ None → has_reserved_key v ≡ false
 value_reserved v = elim (nat_lt 32 (plain_value.depth v)) as (λ a. (if a then Some limit.TooDeep else (if nat_lt (2 ^ 20) (plain_value.weight v) then Some limit.TooBig else (if has_long_key v then Some limit.KeyTooLong else (if has_reserved_key v then Some limit.ReservedKey else None)))) ≡ None → has_reserved_key v ≡ false) [
   | true ↦ λ h. absurd (cc)
   | false ↦ elim (nat_lt (2 ^ 20) (plain_value.weight v)) as (λ a. (if a then Some limit.TooBig else (if has_long_key v then Some limit.KeyTooLong else (if has_reserved_key v then Some limit.ReservedKey else None))) ≡ None → has_reserved_key v ≡ false) [
