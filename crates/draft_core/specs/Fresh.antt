@@ -1,5 +1,5 @@
 -- New objects of a scope.
-use Rattle.std.proofs.Common.{◌≡◌, ◌≢◌, ℕ, zero, suc, ◌+◌, ◌-◌, ◌<◌, ◌≤◌, List, [], ◌∷◌, ◌++◌, length, map, take, refl, ap, sym, ◌∙◌, subst, arith, Bool, true, false}
+use Rattle.std.proofs.Common.{◌≡◌, ◌≢◌, ℕ, zero, suc, ◌+◌, ◌-◌, ◌≤◌, List, [], ◌∷◌, ◌++◌, length, take, refl, ap, sym, ◌∙◌, arith, true, false}
 use Rattle.std.proofs.lemmas.Grind.{common_steps}
 use Rattle.std.specs.Prelude.{Option, Some, None, nat_lt, if◌then◌else◌, slice_get, IsTrue, ⊤, ◌||◌, not, Result, Ok, Err}
 use Rattle.std.specs.BTreeMap.{get}
@@ -19,7 +19,7 @@ use Rattle.draft_slots.specs.Looks.{kind_in}
 use Rattle.run_heap.specs.Heap.{Heap, copied, shown, is_foreign, with_objects, next_object}
 use Rattle.run_heap.specs.Laws.{AllContents, read_ours}
 use Rattle.run_heap.specs.Operations.{Rows, listed, keys_of, rows_of, keys_shown, is_object, unless, read, then_read}
-use Rattle.run_heap.specs.Sound.{IsTable, IsStored, HasSource, RowsStored, all_stand, ascends}
+use Rattle.run_heap.specs.Sound.{IsStored, HasSource, RowsStored, all_stand, ascends}
 use Rattle.draft_core.specs.declared.scope.Scope.{Scope}
 use Rattle.draft_core.specs.Changed.{fields, heap_is}
 use Rattle.draft_core.specs.Kept.{scope_is, next_is}

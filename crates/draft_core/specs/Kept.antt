@@ -1,5 +1,5 @@
 -- What a scope keeps: the objects of its heap in its tables, over a store that extends the one at its beginning.
-use Rattle.std.proofs.Common.{◌≡◌, ◌≢◌, ℕ, zero, suc, ◌+◌, ◌-◌, ◌<◌, ◌≤◌, ◌^◌, List, [], ◌∷◌, length, get_or, take, refl, ap, sym, ◌∙◌, subst, arith, Bool, true, false}
+use Rattle.std.proofs.Common.{◌≡◌, ℕ, zero, suc, ◌+◌, ◌-◌, ◌<◌, ◌≤◌, ◌^◌, List, [], ◌∷◌, length, get_or, take, refl, ap, sym, ◌∙◌, subst, arith, Bool, true, false}
 use Rattle.std.specs.Prelude.{Option, Some, None, nat_lt, if◌then◌else◌, slice_get, IsTrue, IfOk, Result, Ok, Err, not, ◌==◌, ◌&&◌}
 use Rattle.std.specs.BTreeMap.{get, is_at}
 use Rattle.std.specs.Map.{lookup}
@@ -7,7 +7,7 @@ use Rattle.std.specs.Option.{option_or}
 use Rattle.std.specs.Ordering.{nat_cmp}
 use Rattle.std.proofs.lemmas.Grind.{common_steps}
 use Rattle.value_model.specs.declared.key.Key.TheVariants as key
-use Rattle.numbered.specs.Laws.{Extends, extends_take, containers_at, of_number, place_of}
+use Rattle.numbered.specs.Laws.{extends_take, containers_at, of_number, place_of}
 use Rattle.numbered.specs.Store.{IsNumber, IsStore, IsOf, tree_at}
 use Rattle.numbered.specs.Tree.{Tree, prim, node, containers, containers_in, branches_of, before, place}
 use Rattle.node_store.specs.Nodes.{cell_of}

@@ -1,5 +1,5 @@
 -- Whether a draft was written, by the drafts that have a table.
-use Rattle.std.proofs.Common.{◌≡◌, ◌≢◌, ℕ, zero, suc, ◌<◌, ◌≤◌, List, [], ◌∷◌, length, get_or, refl, ap, sym, ◌∙◌, subst, arith, Bool, true, false, cond}
+use Rattle.std.proofs.Common.{◌≡◌, ◌≢◌, ℕ, zero, suc, ◌<◌, List, [], ◌∷◌, length, get_or, refl, ap, sym, ◌∙◌, subst, arith, Bool, true, false, cond}
 use Rattle.std.specs.Prelude.{◌&&◌, ◌||◌, ◌==◌, nat_lt, Option, Some, None}
 use Rattle.std.specs.BTreeMap.{get, is_at}
 use Rattle.std.specs.List.{list_any, All}
@@ -8,7 +8,7 @@ use Rattle.std.specs.Ordering.{nat_cmp, is_eq}
 use Rattle.value_model.specs.declared.words.Kind.TheVariants as kind
 use Rattle.numbered.specs.Tree.{Tree}
 use Rattle.run_heap.specs.declared.content.Content.{Content}
-use Rattle.run_heap.specs.Heap.{Heap, drafts}
+use Rattle.run_heap.specs.Heap.{drafts}
 use Rattle.run_heap.specs.Laws.{left_true, right_true}
 use Rattle.run_heap.specs.Operations.{any_below, any_written, is_marked}
 use Rattle.draft_core.specs.declared.scope.Scope.{Scope}

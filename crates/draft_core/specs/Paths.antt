@@ -1,17 +1,15 @@
 -- The walk along the path of a draft.
-use Rattle.std.proofs.Common.{◌≡◌, ◌≢◌, ℕ, zero, suc, ◌+◌, ◌-◌, ◌<◌, ◌≤◌, List, [], ◌∷◌, ◌++◌, length, refl, ap, sym, ◌∙◌, subst, arith, true, false}
+use Rattle.std.proofs.Common.{◌≡◌, ℕ, zero, suc, ◌+◌, ◌-◌, ◌<◌, ◌≤◌, List, [], ◌∷◌, ◌++◌, length, refl, ap, sym, ◌∙◌, subst, arith, true, false}
 use Rattle.std.proofs.lemmas.List.{append_assoc, append-nil}
-use Rattle.std.specs.Prelude.{◌^◌, pos, Option, Some, None, nat_lt, if◌then◌else◌, slice_get}
+use Rattle.std.specs.Prelude.{◌^◌, pos, Option, Some, None, nat_lt, slice_get}
 use Rattle.value_model.specs.declared.key.Key.{Key}
-use Rattle.value_model.specs.declared.key.Key.TheVariants as key
 use Rattle.value_model.specs.declared.words.Kind.{Kind}
-use Rattle.value_model.specs.declared.words.Kind.TheVariants as kind
 use Rattle.value_model.specs.Safe.{IsSafe}
 use Rattle.std.proofs.lemmas.Int.{ints}
 use Rattle.value_model.specs.Plain as plain_value
 use Rattle.numbered.specs.Laws.{values_at, before_more, within_child}
 use Rattle.numbered.specs.Store.{IsNumber, IsStore, tree_at}
-use Rattle.numbered.specs.Tree.{Tree, Branches, prim, node, none, branch, plain, plains, containers, containers_in, branches_of, children, before}
+use Rattle.numbered.specs.Tree.{Tree, Branches, prim, node, none, branch, plain, plains, containers, branches_of, children, before}
 use Rattle.node_store.specs.Nodes.{kind_of, keys_in, cells_of, cells_in}
 use Rattle.run_heap.specs.Places.{step, path_to, path_in, place_of}
 use Rattle.run_heap.specs.Operations.{slot_of}

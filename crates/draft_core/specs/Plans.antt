@@ -1,6 +1,6 @@
 -- Which change a refusing call makes: the first refusal that holds, or the change of the object's table.
 use Rattle.std.proofs.Common.{◌≡◌, ◌≢◌, ℕ, ◌≤◌, List, [], ◌∷◌, length, refl, ap, sym, ◌∙◌, subst, arith, Bool, true, false, not}
-use Rattle.std.specs.Prelude.{ℤ, pos, negsuc, ◌&&◌, ◌||◌, ◌==◌, ◌<◌, nat_lt, if◌then◌else◌, Option, Some, None, IsTrue, Result, Ok, Err, MatchResult, ⊤}
+use Rattle.std.specs.Prelude.{ℤ, pos, negsuc, ◌||◌, ◌==◌, nat_lt, Option, Some, None, IsTrue, Result, Ok, Err, MatchResult}
 use Rattle.std.specs.FinMap.Entries.{put, is_sorted}
 use Rattle.value_model.specs.declared.key.Key.{Key}
 use Rattle.value_model.specs.declared.key.Key.TheVariants as key
@@ -16,7 +16,7 @@ use Rattle.run_heap.specs.declared.fault.DraftFault.TheVariants as fault
 use Rattle.run_heap.specs.Heap.{Heap, shown, is_foreign, write_table}
 use Rattle.run_heap.specs.Laws.{shown_content}
 use Rattle.run_heap.specs.Operations.{Rows, unless, is_undefined, is_frozen, is_hole, is_place, is_text_place, put_entry, put_at, putting, edit_shown, then_write, no_answer, set_element, remove_at, removing, without, rewrite, table_of}
-use Rattle.run_heap.specs.Sound.{IsSound, IsContent, IsTable, IsStored, IsObject, Owned, ascends, all_stand, may_stand}
+use Rattle.run_heap.specs.Sound.{IsSound, IsContent, IsTable, IsStored, IsObject, Owned, may_stand}
 use Rattle.run_heap.specs.Tables.{put_table, without_table, element_table}
 use Rattle.draft_slots.specs.declared.change.Change.{Change}
 use Rattle.draft_slots.specs.declared.change.Change.TheVariants as change

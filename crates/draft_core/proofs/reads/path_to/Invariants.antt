@@ -1,4 +1,4 @@
-use Rattle.std.proofs.Common.{◌≡◌, ◌<◌, ◌++◌, ℕ}
+use Rattle.std.proofs.Common.{◌≡◌, ◌<◌, ◌++◌}
 use Rattle.numbered.specs.Store.{IsNumber, tree_at}
 use Rattle.numbered.specs.Tree.{containers}
 use Rattle.run_heap.specs.Places.{path_to}

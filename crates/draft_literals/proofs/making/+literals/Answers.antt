@@ -1,9 +1,8 @@
-use Rattle.std.proofs.Common.{◌≡◌, ◌+◌, ◌≤◌, ap, refl, arith, drop, map, ◌∙◌}
+use Rattle.std.proofs.Common.{◌+◌, ap, refl, arith, drop, map, ◌∙◌}
 use Rattle.value_model.specs.declared.key.Key.TheVariants as key
 use Rattle.value_model.specs.declared.words.Kind.TheVariants as kind
 use Rattle.std.specs.FinMap.Entries.{is_sorted}
 use Rattle.value_model.specs.Order.{key_cmp}
-use Rattle.value_model.specs.Plain.{values_in}
 use Rattle.value_model.specs.Steps.{list_of_entries}
 use Rattle.values.specs.Fits.{fields_fit, items_fit, entries_fit}
 use Rattle.values.specs.Seen.{of_field, of_item, of_entry, of_fields, of_items, of_entries}

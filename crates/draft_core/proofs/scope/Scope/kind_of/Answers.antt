@@ -1,4 +1,4 @@
-use Rattle.std.proofs.Common.{◌≡◌, ap, ◌∙◌}
+use Rattle.std.proofs.Common.{ap, ◌∙◌}
 use Rattle.std.specs.Prelude.{Option, Some, option_map}
 use Rattle.value_model.specs.declared.words.Kind.{Kind}
 use Rattle.run_heap.specs.declared.content.Content.{Content}

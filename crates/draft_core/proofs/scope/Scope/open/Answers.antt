@@ -1,11 +1,10 @@
-use Rattle.std.proofs.Common.{◌≡◌, ◌≢◌, ◌∙◌, ℕ, refl, sym, ap, subst}
+use Rattle.std.proofs.Common.{◌∙◌, refl, sym, ap, subst}
 use Rattle.std.specs.Ordering.{nat_cmp}
 use Rattle.std.specs.BTreeMap.{is_at}
 use Rattle.std.specs.Map.{lookup}
 use Rattle.run_heap.specs.Sound.{IsSound}
-use Rattle.draft_core.specs.Changed.{heap_opened, heap_unchanged, stands_as, apart, none_there, later_own, draft_own}
+use Rattle.draft_core.specs.Changed.{heap_opened, heap_unchanged, stands_as, apart, none_there, later_own}
 use Rattle.draft_core.specs.Kept.{node_fits, node_copied}
-use Rattle.draft_core.specs.Tables.{Beside}
 use Rattle.draft_core.proofs.scope.Scope.open.Goals as goal
 
 pub returns-then-name-self-clause-own : goal.returns-then-name-self-clause-own

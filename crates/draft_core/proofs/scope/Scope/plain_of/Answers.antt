@@ -1,6 +1,5 @@
-use Rattle.std.proofs.Common.{◌≡◌, ◌∙◌, ◌+◌, ◌<◌, ◌^◌, ◌++◌, List, [], length, refl, sym, subst, ap, ℕ, arith}
+use Rattle.std.proofs.Common.{◌∙◌, ◌+◌, ◌++◌, length, refl, sym, subst, ap, ℕ, arith}
 use Rattle.std.proofs.lemmas.Result.{err_from_is_err_and}
-use Rattle.run_heap.specs.Heap.{with_objects}
 use Rattle.run_heap.specs.Laws.{objects_sound, grows_objects, grows_refl}
 use Rattle.run_heap.specs.Operations.{literals}
 use Rattle.run_heap.specs.Sound.{IsSound, Grows}

@@ -1,6 +1,4 @@
-use Rattle.std.proofs.Common.{refl, ◌∙◌, ◌<◌, ◌-◌, length, arith}
-use Rattle.std.specs.Prelude.{OnErr, List}
-use Rattle.numbered.specs.Tree.{Tree}
+use Rattle.std.proofs.Common.{refl}
 use Rattle.draft_core.specs.Changed.{rewrote_draft, rewrote_later, later_has, on_err, heap_unchanged, heap_same}
 use Rattle.draft_core.proofs.scope.Scope.rewrite_at.Goals as goal
 
