@@ -1,2 +1,12 @@
+pub mod Changed
+pub mod Fresh
+pub mod Keeping
+pub mod Kept
+pub mod Lists
+pub mod Literals
+pub mod Marks
+pub mod Paths
+pub mod Plans
 pub mod Seen
+pub mod Tables
 pub mod Writes

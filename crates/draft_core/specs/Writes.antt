@@ -1,5 +1,5 @@
 -- What calls that write ask, and what they cost.
-use Rattle.std.specs.Prelude.{◌≡◌, ℕ, ◌+◌, Option, Some, None, IsTrue, ⊤, true, length}
+use Rattle.std.specs.Prelude.{ℕ, ◌+◌, Option, Some, None, IsTrue, ⊤, length}
 use Rattle.std.specs.BTreeMap.{btree_map_len}
 use Rattle.value_model.specs.declared.key.Key.{Key}
 use Rattle.value_model.specs.declared.words.Kind.{Kind}

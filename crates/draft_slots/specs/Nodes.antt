@@ -1,9 +1,8 @@
 -- A node's table as it is given out.
-use Rattle.std.proofs.Common.{◌≡◌, ◌≢◌, ℕ, zero, suc, ◌+◌, ◌<◌, ◌≤◌, List, [], ◌∷◌, length, get_or, map, refl, ap, sym, ◌∙◌, subst, arith, Bool, true, false, Less, Equal, Greater}
-use Rattle.std.specs.Prelude.{◌&&◌, Option, Some, None, option_map, IsTrue, MatchOption, IfSome, slice_get, not}
+use Rattle.std.proofs.Common.{◌≡◌, ◌≢◌, ℕ, zero, suc, ◌+◌, ◌<◌, List, [], ◌∷◌, length, get_or, refl, ap, sym, ◌∙◌, subst, arith, true, false, Less, Equal, Greater}
+use Rattle.std.specs.Prelude.{Option, Some, None, option_map, IsTrue, MatchOption, IfSome, slice_get}
 use Rattle.std.specs.FinMap.Entries.{is_sorted, below_all}
-use Rattle.std.specs.Ordering.{is_eq, is_lt, ordering_reverse}
-use Rattle.std.specs.declared.cmp.Ordering.{Ordering}
+use Rattle.std.specs.Ordering.{is_eq, ordering_reverse}
 use Rattle.std.proofs.lemmas.Cmp.{tied_itself}
 use Rattle.value_model.specs.declared.key.Key.{Key}
 use Rattle.value_model.specs.declared.key.Key.TheVariants as key
@@ -14,9 +13,9 @@ use Rattle.value_model.specs.Places.{ascends_at}
 use Rattle.value_model.specs.Plain.{Plain, list_of}
 use Rattle.value_model.specs.Search.{left_true, right_true, less_from_test}
 use Rattle.value_model.specs.Well.{well, all_fit}
-use Rattle.numbered.specs.Laws.{before_le, well_at}
+use Rattle.numbered.specs.Laws.{well_at}
 use Rattle.numbered.specs.Store.{IsNumber, IsStore, tree_at}
-use Rattle.numbered.specs.Tree.{Tree, Branches, prim, node, none, branch, plain, plains, containers, containers_in, branches_of, children, before}
+use Rattle.numbered.specs.Tree.{Tree, Branches, prim, node, none, branch, plain, plains, containers, branches_of, children, before}
 use Rattle.node_store.specs.Nodes.{kind_of, keys_of, keys_in, cells_of, cells_in, cell_of, cell_tree, CellBelow}
 use Rattle.node_store.specs.Tables.{cell_again}
 use Rattle.node_store.specs.declared.node.Cell.{Cell}
@@ -25,10 +24,10 @@ use Rattle.run_heap.specs.declared.value.Given.{Given}
 use Rattle.run_heap.specs.declared.value.Given.TheVariants as given
 use Rattle.run_heap.specs.declared.value.Rv.{Rv}
 use Rattle.run_heap.specs.declared.value.Rv.TheVariants.{Prim, Obj, Frozen}
-use Rattle.run_heap.specs.Heap.{after, given_value, given_table, given_content}
+use Rattle.run_heap.specs.Laws.{sorted_given}
+use Rattle.run_heap.specs.Heap.{after, given_value, given_table}
 use Rattle.run_heap.specs.Operations as spec
 use Rattle.run_heap.specs.Operations.{Rows, value_at, position}
-use Rattle.run_heap.specs.Values.{same}
 
 -- what a container with this number is given as
 abbrev pub given_node : Given → ℕ → Rv
@@ -117,14 +116,6 @@ pub keyed_keys : (g : Given) (t : Tree) → kind_of t ≢ kind.List → keys_of 
 keyed_keys g t h = keyed_in t h ∙ sym (table_keys g (branches_of t))
 
 -- ---- where a key is
-below_given : (g : Given) (x : Key) (es : Branches) → below_all key_cmp x (given_table g es) ≡ below_all key_cmp x (list_of (plains es))
-below_given g x none = refl
-below_given g x (branch k v es) = ap (λ b. is_lt (key_cmp x k) && b) (below_given (after g (containers v)) x es)
-
-pub sorted_given : (g : Given) (es : Branches) → is_sorted key_cmp (given_table g es) ≡ is_sorted key_cmp (list_of (plains es))
-sorted_given g none = refl
-sorted_given g (branch k v es) = λ i. below_given (after g (containers v)) k es i && sorted_given (after g (containers v)) es i
-
 sorted_kind : (of : Kind) (es : List (Key × Plain)) → of ≢ kind.List → ascends_at of es ≡ true → is_sorted key_cmp es ≡ true
 sorted_kind kind.List es other h = absurd (other refl)
 sorted_kind kind.Obj es other h = h

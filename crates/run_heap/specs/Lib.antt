@@ -1,7 +1,9 @@
 pub mod Answers
 pub mod Examples
 pub mod Heap
+pub mod Laws
 pub mod Operations
 pub mod Places
 pub mod Sound
+pub mod Tables
 pub mod Values

@@ -1,0 +1,56 @@
+use Rattle.std.proofs.Common.{◌∙◌, ◌+◌, ◌++◌, length, refl, sym, subst, ap, ℕ, arith}
+use Rattle.std.proofs.lemmas.Result.{err_from_is_err_and}
+use Rattle.run_heap.specs.Laws.{objects_sound, grows_objects, grows_refl}
+use Rattle.run_heap.specs.Operations.{literals}
+use Rattle.run_heap.specs.Sound.{IsSound, Grows}
+use Rattle.draft_core.specs.declared.scope.Scope.{Scope}
+use Rattle.draft_core.specs.Changed.{heap_same, stands_as}
+use Rattle.draft_core.specs.Fresh.{heap_made}
+use Rattle.draft_core.specs.Literals.{few_places, plain_contents, made_literals}
+use Rattle.draft_core.specs.Seen.{heap}
+use Rattle.draft_core.proofs.scope.Scope.plain_of.Goals as goal
+
+pub literals-requires : goal.literals-requires
+literals-requires c =
+    let few = few_places c.args.v.now c.requires in
+    let none = ap length c.new-made.ensures.items in
+    let fits = c.fits-self in
+    let small = c.args.self.now.later.small in
+    let long = c.len.ensures ∙ c.args.self.now.later.ok.0 in
+    omega (arith, few, none, fits, small, long)
+
+pub returns-in_err-append-clause-done : goal.returns-in_err-append-clause-done
+returns-in_err-append-clause-done c = λ ts st.
+    let t : Scope = record c.args.self.now { later = c.append.new.self } in
+    let p = err_from_is_err_and c.from_residual-in_err-append.result c.from_residual-in_err-append.ensures.1 in
+    rw p.1 (heap_same ts c.args.self.now t (record { number = refl; root = refl; len = refl; drafts = refl }) refl c.in_err-append.ensures.items)
+
+pub returns-in_err-append-clause-stands : goal.returns-in_err-append-clause-stands
+returns-in_err-append-clause-stands c = λ ts st.
+    let t : Scope = record c.args.self.now { later = c.append.new.self } in
+    let same = heap_same ts c.args.self.now t (record { number = refl; root = refl; len = refl; drafts = refl }) refl c.in_err-append.ensures.items in
+    stands_as ts c.args.self.now t st (record { number = refl; root = refl; len = refl; drafts = refl }) (subst IsSound (sym same) st.sound)
+
+pub returns-in_err-append-clause-grows : goal.returns-in_err-append-clause-grows
+returns-in_err-append-clause-grows c = λ ts st.
+    let t : Scope = record c.args.self.now { later = c.append.new.self } in
+    let same = heap_same ts c.args.self.now t (record { number = refl; root = refl; len = refl; drafts = refl }) refl c.in_err-append.ensures.items in
+    subst (Grows (heap ts c.args.self.now)) (sym same) (grows_refl (heap ts c.args.self.now))
+
+pub returns-clause-done : goal.returns-clause-done
+returns-clause-done c = λ ts st.
+    let s = c.args.self.now in
+    let first = ap (λ (n : ℕ). s.drafts + n) (c.len.ensures ∙ s.later.ok.0) in
+    let m = made_literals ts s _ c.args.v.now _ _ _ first c.new-made.ensures.items c.in_ok-value.ensures in
+    (heap_made ts s _ (literals (heap ts s) c.args.v.now) (record { number = refl; root = refl; len = refl; drafts = refl }) refl (c.in_ok-append.ensures.items ∙ ap (λ cs. s.later.items ++ cs) m.objects), m.value)
+
+pub returns-clause-stands : goal.returns-clause-stands
+returns-clause-stands c = λ ts st.
+    let h = heap ts c.args.self.now in
+    let v = c.args.v.now in
+    stands_as ts c.args.self.now _ st (record { number = refl; root = refl; len = refl; drafts = refl }) (subst IsSound (sym (returns-clause-done c ts st).0) (objects_sound h (literals h v) st.sound (plain_contents h v c.in_ok-value.ensures.2 c.requires)))
+
+pub returns-clause-grows : goal.returns-clause-grows
+returns-clause-grows c = λ ts st.
+    let h = heap ts c.args.self.now in
+    subst (Grows h) (sym (returns-clause-done c ts st).0) (grows_objects h (literals h c.args.v.now) st.sound)
