@@ -17,23 +17,26 @@ use Rattle.draft_core.specs.declared.scope.Scope.{Scope}
 use Rattle.draft_slots.specs.declared.look.Peek.{Peek}
 use Rattle.draft_slots.specs.declared.look.Peek.TheVariants.{Read, Untouched}
 
--- a draft that was written has a table of its own, any other is its place in the opening state; later objects are kept in the
--- order of their names
-abbrev pub object_of : List Tree → Scope → ℕ → Option Content
-object_of states s n =
-    if nat_lt n s.drafts
-    then option_or (get nat_cmp s.touched n) (copied s.number n (place n (tree_at states s.root)))
-    else slice_get s.later.items (n - s.drafts)
+-- the objects of a scope: a draft that was written has a table of its own, any other is its place in the opening state; later
+-- objects are kept in the order of their names
+abbrev pub kept_object : ℕ → Tree → ℕ → (ℕ → Option Content) → List Content → ℕ → Option Content
+kept_object scope opening drafts touched later n =
+    if nat_lt n drafts
+    then option_or (touched n) (copied scope n (place n opening))
+    else slice_get later (n - drafts)
+
+abbrev pub kept_heap : ℕ → List Tree → ℕ → ℕ → (ℕ → Option Content) → List Content → Heap
+kept_heap scope states root drafts touched later = record {
+  scope = scope;
+  states = states;
+  root = root;
+  next = drafts + length later;
+  object = kept_object scope (tree_at states root) drafts touched later;
+}
 
 -- the states are those that the store had at the beginning
 unfoldable pub heap : List Tree → Scope → Heap
-heap ts s = record {
-  scope = s.number;
-  states = take s.len ts;
-  root = s.root;
-  next = s.drafts + length s.later.items;
-  object = object_of (take s.len ts) s;
-}
+heap ts s = kept_heap s.number (take s.len ts) s.root s.drafts (get nat_cmp s.touched) s.later.items
 
 -- what holds of a scope and the store that it is used with
 pub record Stands (ts : List Tree) (s : Scope) : Type 0 where

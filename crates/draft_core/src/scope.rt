@@ -43,6 +43,7 @@ impl Scope {
         ensures heap { IfOk result (λ s. heap store.now s ≡ opened ticket store.now root) }
         ensures stands { IfOk result (λ s. Stands store.now s) }
     {
+        let _from_one = root.get();
         Ok(Scope {
             number: ticket.number(),
             root,

@@ -119,3 +119,11 @@ drop_all (e ∷ all) (suc n) l = drop_all all n (omega arith)
 pub all_there : (t all : Rows) (n : ℕ) → length all ≤ n → t ++ drop n all ≡ all → t ≡ all
 all_there t all n l w = sym (append-nil t) ∙ ap (λ (x : Rows). t ++ x) (sym (drop_all all n l)) ∙ w
 
+
+-- ---- a look shows a kind
+some_kind : (o : Option Content) (c : Content) → o ≡ Some c → Some (kind_in o) ≡ option_map (λ (d : Content). d.kind) o
+some_kind o c h = rw h refl
+
+pub looked_kind : (ts : List Tree) (l : Look) → IsLook ts l → Some (kind_in (looked ts l)) ≡ option_map (λ (d : Content). d.kind) (looked ts l)
+looked_kind ts (Own c) h = refl
+looked_kind ts (Node id g) h = some_kind (given_content g (tree_at ts id)) _ (content_node ts g id h.0 h.1)

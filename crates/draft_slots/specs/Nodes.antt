@@ -25,6 +25,7 @@ use Rattle.run_heap.specs.declared.value.Given.{Given}
 use Rattle.run_heap.specs.declared.value.Given.TheVariants as given
 use Rattle.run_heap.specs.declared.value.Rv.{Rv}
 use Rattle.run_heap.specs.declared.value.Rv.TheVariants.{Prim, Obj, Frozen}
+use Rattle.run_heap.specs.Laws.{sorted_given}
 use Rattle.run_heap.specs.Heap.{after, given_value, given_table, given_content}
 use Rattle.run_heap.specs.Operations as spec
 use Rattle.run_heap.specs.Operations.{Rows, value_at, position}
@@ -117,14 +118,6 @@ pub keyed_keys : (g : Given) (t : Tree) → kind_of t ≢ kind.List → keys_of 
 keyed_keys g t h = keyed_in t h ∙ sym (table_keys g (branches_of t))
 
 -- ---- where a key is
-below_given : (g : Given) (x : Key) (es : Branches) → below_all key_cmp x (given_table g es) ≡ below_all key_cmp x (list_of (plains es))
-below_given g x none = refl
-below_given g x (branch k v es) = ap (λ b. is_lt (key_cmp x k) && b) (below_given (after g (containers v)) x es)
-
-pub sorted_given : (g : Given) (es : Branches) → is_sorted key_cmp (given_table g es) ≡ is_sorted key_cmp (list_of (plains es))
-sorted_given g none = refl
-sorted_given g (branch k v es) = λ i. below_given (after g (containers v)) k es i && sorted_given (after g (containers v)) es i
-
 sorted_kind : (of : Kind) (es : List (Key × Plain)) → of ≢ kind.List → ascends_at of es ≡ true → is_sorted key_cmp es ≡ true
 sorted_kind kind.List es other h = absurd (other refl)
 sorted_kind kind.Obj es other h = h

@@ -1,0 +1,5 @@
+use Rattle.draft_core.specs.Kept.{frozen_shown, frozen_number}
+use Rattle.draft_core.proofs.scope.Scope.look.Goals as goal
+
+pub returns-in-Frozen : goal.returns-in-Frozen
+returns-in-Frozen c = (frozen_shown c.args.store.now c.args.self.now c.args.of.now c.in-Frozen.id c.in-Frozen.is c.requires.owned, (c.requires.stands.store, frozen_number c.args.store.now c.args.self.now c.args.of.now c.in-Frozen.id c.in-Frozen.is c.requires.owned, tt))

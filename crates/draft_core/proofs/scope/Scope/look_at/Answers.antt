@@ -1,0 +1,35 @@
+use Rattle.std.proofs.Common.{◌≡◌, ◌∙◌, ◌<◌, ◌-◌, sym, ap, length, arith}
+use Rattle.std.specs.Prelude.{Some, Option}
+use Rattle.run_heap.specs.declared.content.Content.{Content}
+use Rattle.draft_core.specs.Kept.{later_inside, later_is, touched_is, own_ascends, node_shown, node_fits, number_more}
+use Rattle.draft_core.specs.Seen.{heap}
+use Rattle.draft_core.proofs.scope.Scope.look_at.Goals as goal
+
+pub index-requires : goal.index-requires
+index-requires c =
+    let inside = later_inside c.args.store.now c.args.self.now c.args.name c.requires.name c.if-name-self.true in
+    let long = c.args.self.now.later.ok.0 in
+    omega (arith, inside, long)
+
+pub returns-then-name-self-clause-shown : goal.returns-then-name-self-clause-shown
+returns-then-name-self-clause-shown c =
+    let inside = later_inside c.args.store.now c.args.self.now c.args.name c.requires.name c.if-name-self.true in
+    ap (λ (x : Content). let o : Option Content = Some x in o) c.index.ensures ∙ sym (later_is c.args.store.now c.args.self.now c.args.name c.index.result.now c.if-name-self.true inside)
+
+pub returns-then-name-self-clause-look : goal.returns-then-name-self-clause-look
+returns-then-name-self-clause-look c =
+    let inside = later_inside c.args.store.now c.args.self.now c.args.name c.requires.name c.if-name-self.true in
+    own_ascends (heap c.args.store.now c.args.self.now) c.args.name c.index.result.now c.requires.stands.sound
+    (later_is c.args.store.now c.args.self.now c.args.name c.index.result.now c.if-name-self.true inside ∙ ap (λ (x : Content). let o : Option Content = Some x in o) (sym c.index.ensures))
+
+pub returns-in-Some-clause-shown : goal.returns-in-Some-clause-shown
+returns-in-Some-clause-shown c = sym (touched_is c.args.store.now c.args.self.now c.args.name (Some c.in-Some.content.now) c.if-name-self.false (sym c.in-Some.ensures.value))
+
+pub returns-in-Some-clause-look : goal.returns-in-Some-clause-look
+returns-in-Some-clause-look c = own_ascends (heap c.args.store.now c.args.self.now) c.args.name c.in-Some.content.now c.requires.stands.sound (touched_is c.args.store.now c.args.self.now c.args.name (Some c.in-Some.content.now) c.if-name-self.false (sym c.in-Some.ensures.value))
+
+pub returns-in-None-clause-shown : goal.returns-in-None-clause-shown
+returns-in-None-clause-shown c = node_shown c.args.store.now c.args.self.now c.args.name c.locate.result c.given.result c.requires.stands c.if-name-self.false c.in-None.ensures.value c.locate.ensures.place c.given.ensures
+
+pub returns-in-None-clause-look : goal.returns-in-None-clause-look
+returns-in-None-clause-look c = (c.requires.stands.store, c.locate.ensures.number, node_fits c.args.store.now c.args.self.now c.args.name c.locate.result c.given.result c.requires.stands c.locate.ensures.place c.given.ensures)
