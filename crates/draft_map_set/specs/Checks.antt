@@ -1,17 +1,21 @@
 -- The causes for which a call is refused, in their order.
-use Rattle.std.specs.Prelude.{List, [], ◌∷◌, Option, Some, None, Bool, false, not}
+use Rattle.std.specs.Prelude.{List, [], ◌∷◌, Option, Some, None, Bool, false, not, Result, Ok}
 use Rattle.value_model.specs.declared.words.Kind.{Kind}
 use Rattle.run_heap.specs.declared.value.Rv.{Rv}
 use Rattle.run_heap.specs.declared.fault.DraftFault.{DraftFault}
 use Rattle.run_heap.specs.declared.fault.DraftFault.TheVariants as fault
 use Rattle.run_heap.specs.Heap.{Heap}
-use Rattle.run_heap.specs.Operations.{any_foreign, is_undefined, is_frozen, kind_of}
+use Rattle.run_heap.specs.Operations.{unless, any_foreign, is_undefined, is_frozen, kind_of}
 use Rattle.map_set_rows.specs.MapSet.{is_map, is_set, is_map_or_set, is_long}
 use Rattle.draft_map_set.specs.declared.checks.Takes.{Takes}
 use Rattle.draft_map_set.specs.declared.checks.Takes.TheVariants.{Maps, Sets, Both}
 
 abbrev pub Causes : Type 0
 Causes = List (Bool × DraftFault)
+
+-- nothing, or the first cause that holds
+abbrev pub checked : Causes → Result (Unit {0}) DraftFault
+checked cs = unless cs (Ok tt)
 
 -- the kinds that a call takes
 abbrev pub taken : Takes → Kind → Bool

@@ -1,13 +1,12 @@
 //! The refusals of the calls, in their order.
-ghost use Rattle.std.specs.Prelude.{◌≡◌, Ok, [], ◌∷◌, false};
+ghost use Rattle.std.specs.Prelude.{◌≡◌, [], ◌∷◌, false};
 ghost use Rattle.value_model.specs.Limits.{is_long_key};
 ghost use Rattle.run_heap.specs.Heap.{is_foreign};
 ghost use Rattle.run_heap.specs.Operations as spec;
-ghost use Rattle.run_heap.specs.Operations.{unless};
 ghost use Rattle.run_heap.specs.Sound.{Owned};
 ghost use Rattle.map_set_rows.specs.MapSet as rows;
 ghost use Rattle.draft_core.specs.Seen.{heap, Stands};
-ghost use Rattle.draft_map_set.specs.Checks.{taken, kind_causes, read_causes, write_causes, entry_causes, setting_causes, adding_causes};
+ghost use Rattle.draft_map_set.specs.Checks.{checked, taken, kind_causes, read_causes, write_causes, entry_causes, setting_causes, adding_causes};
 
 use draft_core::{DraftFault, Kind, Rv, Scope, Store};
 use value_model::Key;
@@ -59,7 +58,7 @@ pub(crate) fn check_read(
 ) -> Result<(), DraftFault>
     requires stands { Stands store.now scope.now }
     requires owned { Owned (heap store.now scope.now) of.now }
-    ensures { result ≡ unless (read_causes (taken takes) (heap store.now scope.now) of.now []) (Ok tt) }
+    ensures { result ≡ checked (read_causes (taken takes) (heap store.now scope.now) of.now []) }
 {
     if !scope.owns(of) {
         return Err(DraftFault::Revoked);
@@ -77,7 +76,7 @@ pub(crate) fn check_read_by(
 ) -> Result<(), DraftFault>
     requires stands { Stands store.now scope.now }
     requires owned { Owned (heap store.now scope.now) of.now }
-    ensures { result ≡ unless (read_causes (taken takes) (heap store.now scope.now) of.now (key.now ∷ [])) (Ok tt) }
+    ensures { result ≡ checked (read_causes (taken takes) (heap store.now scope.now) of.now (key.now ∷ [])) }
 {
     if !scope.owns(key) {
         return Err(DraftFault::Revoked);
@@ -94,7 +93,7 @@ pub(crate) fn check_write(
 ) -> Result<(), DraftFault>
     requires stands { Stands store.now scope.now }
     requires owned { Owned (heap store.now scope.now) of.now }
-    ensures { result ≡ unless (write_causes (taken takes) (heap store.now scope.now) of.now []) (Ok tt) }
+    ensures { result ≡ checked (write_causes (taken takes) (heap store.now scope.now) of.now []) }
 {
     check_read(scope, store, of, takes)?;
     if is_frozen(of) {
@@ -113,7 +112,7 @@ pub(crate) fn check_write_by(
 ) -> Result<(), DraftFault>
     requires stands { Stands store.now scope.now }
     requires owned { Owned (heap store.now scope.now) of.now }
-    ensures { result ≡ unless (write_causes (taken takes) (heap store.now scope.now) of.now (key.now ∷ [])) (Ok tt) }
+    ensures { result ≡ checked (write_causes (taken takes) (heap store.now scope.now) of.now (key.now ∷ [])) }
 {
     if !scope.owns(key) {
         return Err(DraftFault::Revoked);
@@ -130,7 +129,7 @@ pub(crate) fn check_adding(
 ) -> Result<(), DraftFault>
     requires stands { Stands store.now scope.now }
     requires owned { Owned (heap store.now scope.now) of.now }
-    ensures { result ≡ unless (adding_causes (heap store.now scope.now) of.now member.now) (Ok tt) }
+    ensures { result ≡ checked (adding_causes (heap store.now scope.now) of.now member.now) }
 {
     check_write_by(scope, store, of, member, Takes::Sets)?;
     if is_long(member) {
@@ -149,7 +148,7 @@ pub(crate) fn check_setting(
 ) -> Result<(), DraftFault>
     requires stands { Stands store.now scope.now }
     requires owned { Owned (heap store.now scope.now) of.now }
-    ensures { result ≡ unless (setting_causes (heap store.now scope.now) of.now key.now value.now) (Ok tt) }
+    ensures { result ≡ checked (setting_causes (heap store.now scope.now) of.now key.now value.now) }
 {
     if !scope.owns(value) {
         return Err(DraftFault::Revoked);
@@ -160,7 +159,7 @@ pub(crate) fn check_setting(
 
 /// `KeyTooLong`, `UndefinedWrite`.
 fn check_entry(key: &Rv, value: &Rv) -> Result<(), DraftFault>
-    ensures { result ≡ unless (entry_causes key.now value.now) (Ok tt) }
+    ensures { result ≡ checked (entry_causes key.now value.now) }
 {
     if is_long(key) {
         return Err(DraftFault::KeyTooLong);
@@ -176,7 +175,7 @@ fn check_kind(scope: &Scope, store: &Store, of: &Rv, takes: Takes) -> Result<(),
     requires stands { Stands store.now scope.now }
     requires owned { Owned (heap store.now scope.now) of.now }
     requires ours { is_foreign (heap store.now scope.now) of.now ≡ false }
-    ensures { result ≡ unless (kind_causes (taken takes) (heap store.now scope.now) of.now) (Ok tt) }
+    ensures { result ≡ checked (kind_causes (taken takes) (heap store.now scope.now) of.now) }
 {
     match scope.kind_of(store, of) {
         Some(kind) => {

@@ -12,5 +12,5 @@ mod members;
 mod sets;
 
 pub use maps::{map_clear, map_delete, map_get, map_has, map_set, new_map};
-pub use members::size;
+pub use members::{member_keys, size};
 pub use sets::{new_set, set_add, set_clear, set_delete, set_has};
