@@ -1,8 +1,9 @@
--- Worked rows. Scope 7 is begun at the state {"m":{"$map":[["1","text"],[1,"int"]]},"s":{"$set":[null]}}, whose Map is 1, whose
+-- Worked examples. Scope 7 is begun at the state {"m":{"$map":[["1","text"],[1,"int"]]},"s":{"$set":[null]}}, whose Map is 1, whose
 -- Set is 2, and the root 3; its drafts are 0 (the root), 1 (the Map) and 2 (the Set).
 use Rattle.std.proofs.Math.ListN.{replicate}
-use Rattle.std.specs.Prelude.{◌≡◌, ℕ, pos, List, [], ◌∷◌, codes, refl, Option, Some, None, Bool, true, false, Result, Ok, Err}
+use Rattle.std.specs.Prelude.{◌≡◌, ℕ, pos, negsuc, List, [], ◌∷◌, codes, refl, Option, Some, None, Bool, true, false, Result, Ok, Err}
 use Rattle.value_model.specs.declared.key.Key.{Key}
+use Rattle.value_model.specs.declared.key.Key.TheVariants as key
 use Rattle.value_model.specs.declared.key.Key.TheVariants.{Null, Int, Text}
 use Rattle.value_model.specs.declared.words.Kind.{Kind}
 use Rattle.value_model.specs.declared.words.Kind.TheVariants as kind
@@ -14,7 +15,7 @@ use Rattle.run_heap.specs.declared.fault.DraftFault.{DraftFault}
 use Rattle.run_heap.specs.declared.fault.DraftFault.TheVariants as fault
 use Rattle.run_heap.specs.Heap.{Heap, opened, shown, fresh}
 use Rattle.run_heap.specs.Operations.{Rows, marked}
-use Rattle.map_set_rows.specs.MapSet.{map_get, map_has, map_set, map_delete, map_clear, set_add, set_has, set_delete, set_clear, size, member_keys, new_map, new_set}
+use Rattle.map_set_meaning.specs.MapSet.{map_get, map_has, map_set, map_delete, map_clear, set_add, set_has, set_delete, set_clear, size, member_keys, new_map, new_set}
 
 abbrev one : Key
 one = Int (pos 1)
@@ -52,6 +53,10 @@ left h (Err e) = h
 abbrev answer : {X : Type 0} → Result (Heap × X) DraftFault → Result X DraftFault
 answer (Ok p) = Ok p.1
 answer (Err e) = Err e
+
+-- the longest text that may be a key
+longest : Rv
+longest = Prim (Text (replicate 1024 97))
 
 abbrev content : Kind → ℕ → Rows → Bool → Option Content
 content of id t written = Some (record { kind = of; table = t; source = Some id; written = written })
@@ -290,3 +295,137 @@ keys_of_object = refl
 -- ---- a fresh Set is empty and may be written
 fresh_set : shown (left (new_set start) (set_add (Prim Null) (new_set start) (object 3))) (object 3) ≡ Some (record { kind = kind.Set; table = (Null, Prim Null) ∷ []; source = None; written = true })
 fresh_set = refl
+
+-- ---- the longest key and member are taken
+longest_key : marked (left start (map_set longest (Prim Null) start (object 1))) (object 1) ≡ true
+unfolding longest
+longest_key = refl
+
+longest_member : marked (left start (set_add longest start (object 2))) (object 2) ≡ true
+unfolding longest
+longest_member = refl
+
+-- a longer one is in no Map and no Set
+long_in_map : map_has long_key start (object 1) ≡ Ok false
+unfolding long_key
+long_in_map = refl
+
+long_in_set : set_has long_key start (object 2) ≡ Ok false
+unfolding long_key
+long_in_set = refl
+
+drop_long : shown (left start (set_delete long_key start (object 2))) (object 2) ≡ content kind.Set 2 ((Null, Prim Null) ∷ []) false
+unfolding long_key
+drop_long = refl
+
+-- ---- a frozen node and `undefined` are no keys
+frozen_key : map_get (Frozen 1) start (object 1) ≡ Err fault.BadKey
+frozen_key = refl
+
+frozen_member : set_add (Frozen 1) start (object 2) ≡ Err fault.BadKey
+frozen_member = refl
+
+key_on_frozen : map_has (object 0) start (Frozen 1) ≡ Err fault.BadKey
+key_on_frozen = refl
+
+member_on_frozen : set_has (object 0) start (Frozen 2) ≡ Err fault.BadKey
+member_on_frozen = refl
+
+undefined_set : map_set Undefined (Prim Null) start (object 1) ≡ Err fault.BadKey
+undefined_set = refl
+
+undefined_has : map_has Undefined start (object 1) ≡ Err fault.BadKey
+undefined_has = refl
+
+undefined_delete : map_delete Undefined start (object 1) ≡ Err fault.BadKey
+undefined_delete = refl
+
+undefined_member : set_has Undefined start (object 2) ≡ Err fault.BadKey
+undefined_member = refl
+
+undefined_drop : set_delete Undefined start (object 2) ≡ Err fault.BadKey
+undefined_drop = refl
+
+-- ---- a reference of another scope comes first, also as key, member or value
+foreign_has : map_has foreign start (object 2) ≡ Err fault.Revoked
+foreign_has = refl
+
+foreign_set_key : map_set foreign Undefined start (Frozen 1) ≡ Err fault.Revoked
+foreign_set_key = refl
+
+foreign_set_map : map_set (Prim one) (Prim Null) start foreign ≡ Err fault.Revoked
+foreign_set_map = refl
+
+foreign_delete : map_delete foreign start (Frozen 1) ≡ Err fault.Revoked
+foreign_delete = refl
+
+foreign_set_has : set_has foreign start (object 1) ≡ Err fault.Revoked
+foreign_set_has = refl
+
+foreign_drop : set_delete foreign start (Frozen 2) ≡ Err fault.Revoked
+foreign_drop = refl
+
+foreign_set_clear : set_clear start foreign ≡ Err fault.Revoked
+foreign_set_clear = refl
+
+foreign_keys : member_keys start foreign ≡ Err fault.Revoked
+foreign_keys = refl
+
+-- ---- frozen, also where nothing would change
+delete_absent_frozen : map_delete (Prim Null) start (Frozen 1) ≡ Err fault.Frozen
+delete_absent_frozen = refl
+
+abbrev none_there : Heap
+none_there = opened 7 (node 1 kind.Map none ∷ node 2 kind.Set none ∷ node 3 kind.Obj (branch (Text (codes "m")) (node 1 kind.Map none) (branch (Text (codes "s")) (node 2 kind.Set none) none)) ∷ []) 3
+
+clear_empty_frozen : map_clear none_there (Frozen 1) ≡ Err fault.Frozen
+clear_empty_frozen = refl
+
+clear_empty_set : shown (left none_there (set_clear none_there (object 2))) (object 2) ≡ content kind.Set 2 [] false
+clear_empty_set = refl
+
+size_empty : size none_there (object 1) ≡ Ok 0
+size_empty = refl
+
+keys_of_empty : shown (left none_there (member_keys none_there (object 1))) (object 3) ≡ Some (fresh kind.List [])
+keys_of_empty = refl
+
+keys_of_frozen : shown (left start (member_keys start (Frozen 1))) (object 3) ≡ Some (fresh kind.List ((Null, Prim one) ∷ (Null, text_value (codes "1")) ∷ []))
+keys_of_frozen = refl
+
+keys_of_primitive : member_keys start (Prim Null) ≡ Err fault.TypeMismatch
+keys_of_primitive = refl
+
+-- ---- a container under a key: {"m":{"$map":[[true,{}]]}}, whose inner object is 1, whose Map is 2, and the root 3
+abbrev holder : Tree
+holder = node 2 kind.Map (branch (key.Bool true) (node 1 kind.Obj none) none)
+
+abbrev nested : Heap
+nested = opened 7 (node 1 kind.Obj none ∷ holder ∷ node 3 kind.Obj (branch (Text (codes "m")) holder none) ∷ []) 3
+
+-- its draft, and of the frozen Map the frozen node
+inner_draft : map_get (Prim (key.Bool true)) nested (object 1) ≡ Ok (object 2)
+inner_draft = refl
+
+inner_frozen : map_get (Prim (key.Bool true)) nested (Frozen 2) ≡ Ok (Frozen 1)
+inner_frozen = refl
+
+-- true and 1 are two keys
+no_number : map_get (Prim one) nested (object 1) ≡ Ok Undefined
+no_number = refl
+
+-- the frozen node over its own draft is a write
+base_put : shown (left nested (map_set (Prim (key.Bool true)) (Frozen 1) nested (object 1))) (object 1) ≡ content kind.Map 2 ((key.Bool true, Frozen 1) ∷ []) true
+base_put = refl
+
+-- ---- the order of keys: null, false, true, integers by value, texts
+abbrev adding : Rv → Heap → Heap
+adding k h = left h (set_add k h (object 3))
+
+key_order : shown (adding (Prim Null) (adding (Prim (key.Bool false)) (adding (Prim (key.Bool true)) (adding (Prim (Int (negsuc 4))) (adding (Prim one) (adding (Prim (Int (pos 0))) (adding (text_value (codes "")) (new_set start)))))))) (object 3) ≡ Some (record {
+  kind = kind.Set;
+  table = (Null, Prim Null) ∷ (key.Bool false, Prim (key.Bool false)) ∷ (key.Bool true, Prim (key.Bool true)) ∷ (Int (negsuc 4), Prim (Int (negsuc 4))) ∷ (Int (pos 0), Prim (Int (pos 0))) ∷ (one, Prim one) ∷ (Text (codes ""), text_value (codes "")) ∷ [];
+  source = None;
+  written = true;
+})
+key_order = refl

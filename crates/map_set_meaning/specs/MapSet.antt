@@ -28,17 +28,18 @@ abbrev pub is_map_or_set : Kind → Bool
 is_map_or_set of = is_map of || is_set of
 
 -- ---- a key of a Map, a member of a Set
--- what f says at the primitive that a value is; another value is no key
+-- what f says at the primitive that a value is; another value is no key, the last refusal of a call in the order of `DraftFault`
 abbrev pub by_key : {X : Type 0} → (Key → Result X DraftFault) → Rv → Result X DraftFault
 by_key f (Prim k) = f k
 by_key f _ = Err fault.BadKey
 
--- a text that is too long for a key that is written
+-- a text of more than 1,024 bytes, which no key that is written may be: so it stands in no table, and where it is read or removed
+-- it is just absent
 abbrev pub is_long : Rv → Bool
 is_long (Prim k) = is_long_key k
 is_long _ = false
 
--- there is an entry of the key
+-- a table has an entry of the key
 abbrev pub has : Key → Rows → Bool
 has k t = is_some (find key_cmp k t)
 
@@ -108,7 +109,7 @@ set_delete k h of = edited (deleting is_set k) h of (k ∷ [])
 abbrev pub set_clear : Heap → Rv → Result (Heap × Unit {0}) DraftFault
 set_clear h of = edited (clearing is_set) h of []
 
--- ---- a fresh empty Map or Set
+-- ---- a fresh empty Map or Set, which is the next object
 abbrev pub new_map : Heap → Heap
 new_map h = new_of kind.Map h
 
