@@ -6,7 +6,7 @@ use Rattle.run_heap.specs.declared.fault.DraftFault.{DraftFault}
 use Rattle.run_heap.specs.declared.fault.DraftFault.TheVariants as fault
 use Rattle.run_heap.specs.Heap.{Heap}
 use Rattle.run_heap.specs.Operations.{unless, any_foreign, is_undefined, is_frozen, kind_of}
-use Rattle.map_set_rows.specs.MapSet.{is_map, is_set, is_map_or_set, is_long}
+use Rattle.map_set_meaning.specs.MapSet.{is_map, is_set, is_map_or_set, is_long}
 use Rattle.draft_map_set.specs.declared.checks.Takes.{Takes}
 use Rattle.draft_map_set.specs.declared.checks.Takes.TheVariants.{Maps, Sets, Both}
 

@@ -4,7 +4,7 @@ ghost use Rattle.value_model.specs.Limits.{is_long_key};
 ghost use Rattle.run_heap.specs.Heap.{is_foreign};
 ghost use Rattle.run_heap.specs.Operations as spec;
 ghost use Rattle.run_heap.specs.Sound.{Owned};
-ghost use Rattle.map_set_rows.specs.MapSet as rows;
+ghost use Rattle.map_set_meaning.specs.MapSet as meaning;
 ghost use Rattle.draft_core.specs.Seen.{heap, Stands};
 ghost use Rattle.draft_map_set.specs.Checks.{checked, taken, kind_causes, read_causes, write_causes, entry_causes, setting_causes, adding_causes};
 
@@ -32,7 +32,7 @@ impl Takes {
 }
 
 fn is_map(kind: Kind) -> bool
-    ensures { result ≡ rows.is_map kind }
+    ensures { result ≡ meaning.is_map kind }
 {
     match kind {
         Kind::Map => true,
@@ -41,7 +41,7 @@ fn is_map(kind: Kind) -> bool
 }
 
 fn is_set(kind: Kind) -> bool
-    ensures { result ≡ rows.is_set kind }
+    ensures { result ≡ meaning.is_set kind }
 {
     match kind {
         Kind::Set => true,
@@ -208,7 +208,7 @@ fn is_undefined(v: &Rv) -> bool
 }
 
 fn is_long(v: &Rv) -> bool
-    ensures { result ≡ rows.is_long v.now }
+    ensures { result ≡ meaning.is_long v.now }
 {
     match v {
         Rv::Prim(key) => is_long_text(key),

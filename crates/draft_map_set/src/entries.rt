@@ -7,8 +7,8 @@ ghost use Rattle.run_heap.specs.Answers.{Does, Makes};
 ghost use Rattle.run_heap.specs.Operations as spec;
 ghost use Rattle.run_heap.specs.Operations.{or_undefined, table_of, read, edited};
 ghost use Rattle.run_heap.specs.Sound.{Fits, Owned, IsContainer, IsObject, Grows};
-ghost use Rattle.map_set_rows.specs.MapSet as rows;
-ghost use Rattle.map_set_rows.specs.MapSet.{of_kind, is_there, deleting, clearing};
+ghost use Rattle.map_set_meaning.specs.MapSet as meaning;
+ghost use Rattle.map_set_meaning.specs.MapSet.{of_kind, is_there, deleting, clearing};
 ghost use Rattle.draft_core.specs.Seen.{heap, Stands};
 ghost use Rattle.draft_core.specs.Writes.{slots};
 ghost use Rattle.draft_map_set.specs.Checks.{taken};
@@ -44,7 +44,7 @@ fn has(scope: &Scope, store: &Store, of: &Rv, key: &Key) -> bool
     requires stands { Stands store.now scope.now }
     requires container { IsContainer (heap store.now scope.now) of.now }
     requires keyed { spec.kind_of (heap store.now scope.now) of.now ≢ Some kind.List }
-    ensures { result ≡ rows.has key.now (table_of (heap store.now scope.now) of.now) }
+    ensures { result ≡ meaning.has key.now (table_of (heap store.now scope.now) of.now) }
 {
     match scope.find(store, of, key) {
         Some(_) => true,
@@ -105,7 +105,7 @@ fn delete_key(
     requires stands { Stands store.now scope.old }
     requires object { IsObject (heap store.now scope.old) of.now }
     requires keyed { spec.kind_of (heap store.now scope.old) of.now ≢ Some kind.List }
-    ensures done { Makes result (heap store.now scope.old) (heap store.now scope.new) (spec.set_key key.now None (heap store.now scope.old) of.now) (rows.has key.now (table_of (heap store.now scope.old) of.now)) }
+    ensures done { Makes result (heap store.now scope.old) (heap store.now scope.new) (spec.set_key key.now None (heap store.now scope.old) of.now) (meaning.has key.now (table_of (heap store.now scope.old) of.now)) }
     ensures stands { Stands store.now scope.new }
     ensures grows { Grows (heap store.now scope.old) (heap store.now scope.new) }
     ensures tables { slots scope.new ≤ slots scope.old + 1 }

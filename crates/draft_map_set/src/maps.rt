@@ -4,7 +4,7 @@ ghost use Rattle.numbered.specs.Tree.{Tree};
 ghost use Rattle.run_heap.specs.Answers.{Answers, Does, Makes};
 ghost use Rattle.run_heap.specs.Heap.{next_object};
 ghost use Rattle.run_heap.specs.Sound.{Fits, Owned, Grows};
-ghost use Rattle.map_set_rows.specs.MapSet as rows;
+ghost use Rattle.map_set_meaning.specs.MapSet as meaning;
 ghost use Rattle.draft_core.specs.Seen.{heap, Stands};
 ghost use Rattle.draft_core.specs.Writes.{slots};
 
@@ -24,7 +24,7 @@ pub fn map_get(
 ) -> Result<Rv, DraftFault>
     requires stands { Stands store.now scope.old }
     requires owned { Owned (heap store.now scope.old) of.now }
-    ensures answer { Answers result (rows.map_get key.now (heap store.now scope.old) of.now) }
+    ensures answer { Answers result (meaning.map_get key.now (heap store.now scope.old) of.now) }
     ensures fits { IfOk result (λ v. Fits (heap store.now scope.old) v) }
     ensures same { scope.new ≡ scope.old }
 {
@@ -45,7 +45,7 @@ pub fn map_has(
 ) -> Result<bool, DraftFault>
     requires stands { Stands store.now scope.old }
     requires owned { Owned (heap store.now scope.old) of.now }
-    ensures answer { result ≡ rows.map_has key.now (heap store.now scope.old) of.now }
+    ensures answer { result ≡ meaning.map_has key.now (heap store.now scope.old) of.now }
     ensures same { scope.new ≡ scope.old }
 {
     has_by(scope, store, of, key, Takes::Maps)
@@ -64,7 +64,7 @@ pub fn map_set(
     requires stands { Stands store.now scope.old }
     requires owned { Owned (heap store.now scope.old) of.now }
     requires value { Owned (heap store.now scope.old) value }
-    ensures done { Does result (heap store.now scope.old) (heap store.now scope.new) (rows.map_set key.now value (heap store.now scope.old) of.now) }
+    ensures done { Does result (heap store.now scope.old) (heap store.now scope.new) (meaning.map_set key.now value (heap store.now scope.old) of.now) }
     ensures stands { Stands store.now scope.new }
     ensures grows { Grows (heap store.now scope.old) (heap store.now scope.new) }
     ensures tables { slots scope.new ≤ slots scope.old + 1 }
@@ -87,7 +87,7 @@ pub fn map_delete(
 ) -> Result<bool, DraftFault>
     requires stands { Stands store.now scope.old }
     requires owned { Owned (heap store.now scope.old) of.now }
-    ensures done { Does result (heap store.now scope.old) (heap store.now scope.new) (rows.map_delete key.now (heap store.now scope.old) of.now) }
+    ensures done { Does result (heap store.now scope.old) (heap store.now scope.new) (meaning.map_delete key.now (heap store.now scope.old) of.now) }
     ensures stands { Stands store.now scope.new }
     ensures grows { Grows (heap store.now scope.old) (heap store.now scope.new) }
     ensures tables { slots scope.new ≤ slots scope.old + 1 }
@@ -100,7 +100,7 @@ pub fn map_delete(
 pub fn map_clear(alloc: Global, scope: &mut Scope, store: &Store, of: &Rv) -> Result<(), DraftFault>
     requires stands { Stands store.now scope.old }
     requires owned { Owned (heap store.now scope.old) of.now }
-    ensures done { Does result (heap store.now scope.old) (heap store.now scope.new) (rows.map_clear (heap store.now scope.old) of.now) }
+    ensures done { Does result (heap store.now scope.old) (heap store.now scope.new) (meaning.map_clear (heap store.now scope.old) of.now) }
     ensures stands { Stands store.now scope.new }
     ensures grows { Grows (heap store.now scope.old) (heap store.now scope.new) }
     ensures tables { slots scope.new ≤ slots scope.old + 1 }
@@ -110,7 +110,7 @@ pub fn map_clear(alloc: Global, scope: &mut Scope, store: &Store, of: &Rv) -> Re
 
 /// A fresh empty Map. After want of memory all is as before.
 pub fn new_map(alloc: Global, scope: &mut Scope) -> Result<Rv, AllocError>
-    ensures done { (ts : List Tree) → Stands ts scope.old → Makes result (heap ts scope.old) (heap ts scope.new) (rows.new_map (heap ts scope.old)) (next_object (heap ts scope.old)) }
+    ensures done { (ts : List Tree) → Stands ts scope.old → Makes result (heap ts scope.old) (heap ts scope.new) (meaning.new_map (heap ts scope.old)) (next_object (heap ts scope.old)) }
     ensures stands { (ts : List Tree) → Stands ts scope.old → Stands ts scope.new }
     ensures grows { (ts : List Tree) → Stands ts scope.old → Grows (heap ts scope.old) (heap ts scope.new) }
     ensures tables { slots scope.new ≤ slots scope.old + 1 }

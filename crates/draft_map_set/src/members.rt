@@ -7,7 +7,7 @@ ghost use Rattle.run_heap.specs.Heap.{fresh, next_object, with_object};
 ghost use Rattle.run_heap.specs.Operations as spec;
 ghost use Rattle.run_heap.specs.Operations.{keys_of, listed, table_of};
 ghost use Rattle.run_heap.specs.Sound.{Owned, IsContainer, Grows};
-ghost use Rattle.map_set_rows.specs.MapSet as rows;
+ghost use Rattle.map_set_meaning.specs.MapSet as meaning;
 ghost use Rattle.draft_core.specs.Seen.{heap, Stands};
 ghost use Rattle.draft_core.specs.Writes.{slots};
 
@@ -19,7 +19,7 @@ use std::alloc::{AllocError, Global};
 pub fn size(scope: &Scope, store: &Store, of: &Rv) -> Result<u64, DraftFault>
     requires stands { Stands store.now scope.now }
     requires owned { Owned (heap store.now scope.now) of.now }
-    ensures { result ≡ rows.size (heap store.now scope.now) of.now }
+    ensures { result ≡ meaning.size (heap store.now scope.now) of.now }
 {
     check_read(scope, store, of, Takes::Both)?;
     Ok(scope.count(store, of) as u64)
@@ -35,7 +35,7 @@ pub fn member_keys(
 ) -> Result<Rv, DraftFault>
     requires stands { Stands store.now scope.old }
     requires owned { Owned (heap store.now scope.old) of.now }
-    ensures done { Does result (heap store.now scope.old) (heap store.now scope.new) (rows.member_keys (heap store.now scope.old) of.now) }
+    ensures done { Does result (heap store.now scope.old) (heap store.now scope.new) (meaning.member_keys (heap store.now scope.old) of.now) }
     ensures stands { Stands store.now scope.new }
     ensures grows { Grows (heap store.now scope.old) (heap store.now scope.new) }
     ensures tables { slots scope.new ≤ slots scope.old + 1 }

@@ -4,7 +4,7 @@ ghost use Rattle.numbered.specs.Tree.{Tree};
 ghost use Rattle.run_heap.specs.Answers.{Does, Makes};
 ghost use Rattle.run_heap.specs.Heap.{next_object};
 ghost use Rattle.run_heap.specs.Sound.{Owned, Grows};
-ghost use Rattle.map_set_rows.specs.MapSet as rows;
+ghost use Rattle.map_set_meaning.specs.MapSet as meaning;
 ghost use Rattle.draft_core.specs.Seen.{heap, Stands};
 ghost use Rattle.draft_core.specs.Writes.{slots};
 
@@ -25,7 +25,7 @@ pub fn set_add(
 ) -> Result<(), DraftFault>
     requires stands { Stands store.now scope.old }
     requires owned { Owned (heap store.now scope.old) of.now }
-    ensures done { Does result (heap store.now scope.old) (heap store.now scope.new) (rows.set_add member.now (heap store.now scope.old) of.now) }
+    ensures done { Does result (heap store.now scope.old) (heap store.now scope.new) (meaning.set_add member.now (heap store.now scope.old) of.now) }
     ensures stands { Stands store.now scope.new }
     ensures grows { Grows (heap store.now scope.old) (heap store.now scope.new) }
     ensures tables { slots scope.new ≤ slots scope.old + 1 }
@@ -50,7 +50,7 @@ pub fn set_has(
 ) -> Result<bool, DraftFault>
     requires stands { Stands store.now scope.old }
     requires owned { Owned (heap store.now scope.old) of.now }
-    ensures answer { result ≡ rows.set_has member.now (heap store.now scope.old) of.now }
+    ensures answer { result ≡ meaning.set_has member.now (heap store.now scope.old) of.now }
     ensures same { scope.new ≡ scope.old }
 {
     has_by(scope, store, of, member, Takes::Sets)
@@ -67,7 +67,7 @@ pub fn set_delete(
 ) -> Result<bool, DraftFault>
     requires stands { Stands store.now scope.old }
     requires owned { Owned (heap store.now scope.old) of.now }
-    ensures done { Does result (heap store.now scope.old) (heap store.now scope.new) (rows.set_delete member.now (heap store.now scope.old) of.now) }
+    ensures done { Does result (heap store.now scope.old) (heap store.now scope.new) (meaning.set_delete member.now (heap store.now scope.old) of.now) }
     ensures stands { Stands store.now scope.new }
     ensures grows { Grows (heap store.now scope.old) (heap store.now scope.new) }
     ensures tables { slots scope.new ≤ slots scope.old + 1 }
@@ -80,7 +80,7 @@ pub fn set_delete(
 pub fn set_clear(alloc: Global, scope: &mut Scope, store: &Store, of: &Rv) -> Result<(), DraftFault>
     requires stands { Stands store.now scope.old }
     requires owned { Owned (heap store.now scope.old) of.now }
-    ensures done { Does result (heap store.now scope.old) (heap store.now scope.new) (rows.set_clear (heap store.now scope.old) of.now) }
+    ensures done { Does result (heap store.now scope.old) (heap store.now scope.new) (meaning.set_clear (heap store.now scope.old) of.now) }
     ensures stands { Stands store.now scope.new }
     ensures grows { Grows (heap store.now scope.old) (heap store.now scope.new) }
     ensures tables { slots scope.new ≤ slots scope.old + 1 }
@@ -90,7 +90,7 @@ pub fn set_clear(alloc: Global, scope: &mut Scope, store: &Store, of: &Rv) -> Re
 
 /// A fresh empty Set. After want of memory all is as before.
 pub fn new_set(alloc: Global, scope: &mut Scope) -> Result<Rv, AllocError>
-    ensures done { (ts : List Tree) → Stands ts scope.old → Makes result (heap ts scope.old) (heap ts scope.new) (rows.new_set (heap ts scope.old)) (next_object (heap ts scope.old)) }
+    ensures done { (ts : List Tree) → Stands ts scope.old → Makes result (heap ts scope.old) (heap ts scope.new) (meaning.new_set (heap ts scope.old)) (next_object (heap ts scope.old)) }
     ensures stands { (ts : List Tree) → Stands ts scope.old → Stands ts scope.new }
     ensures grows { (ts : List Tree) → Stands ts scope.old → Grows (heap ts scope.old) (heap ts scope.new) }
     ensures tables { slots scope.new ≤ slots scope.old + 1 }
