@@ -55,7 +55,7 @@ fn list_keys(alloc: Global, scope: &mut Scope, store: &Store, of: &Rv) -> Result
     ensures tables { slots scope.new ≤ slots scope.old + 1 }
 {
     let keys = key_list(alloc, scope, store, of)?;
-    scope.list_of(alloc, &keys)
+    scope.list_of(alloc, store, &keys)
 }
 
 /// The keys of a container that has keys.
