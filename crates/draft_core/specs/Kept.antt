@@ -7,9 +7,9 @@ use Rattle.std.specs.Option.{option_or}
 use Rattle.std.specs.Ordering.{nat_cmp}
 use Rattle.std.proofs.lemmas.Grind.{common_steps}
 use Rattle.value_model.specs.declared.key.Key.TheVariants as key
-use Rattle.numbered.specs.Laws.{Extends, extends_take, containers_at}
-use Rattle.numbered.specs.Store.{IsNumber, IsStore, tree_at}
-use Rattle.numbered.specs.Tree.{Tree, prim, node, containers, containers_in, branches_of, place}
+use Rattle.numbered.specs.Laws.{Extends, extends_take, containers_at, of_number, place_of}
+use Rattle.numbered.specs.Store.{IsNumber, IsStore, IsOf, tree_at}
+use Rattle.numbered.specs.Tree.{Tree, prim, node, containers, containers_in, branches_of, before, place}
 use Rattle.node_store.specs.Nodes.{cell_of}
 use Rattle.node_store.specs.Tables.{cell_again}
 use Rattle.node_store.specs.declared.node.Cell.TheVariants as cell
@@ -21,14 +21,21 @@ use Rattle.run_heap.specs.declared.value.Given.TheVariants as given
 use Rattle.run_heap.specs.declared.fault.DraftFault.{DraftFault}
 use Rattle.run_heap.specs.declared.fault.DraftFault.TheVariants as fault
 use Rattle.run_heap.specs.Answers.{Answers}
-use Rattle.draft_slots.specs.Looks.{Fit}
+use Rattle.draft_slots.specs.Looks.{Fit, looked}
+use Rattle.draft_slots.specs.LookFacts.{rows_node}
+use Rattle.draft_slots.specs.Peeks.{IsKept}
+use Rattle.draft_slots.specs.declared.look.Look.{Look}
+use Rattle.draft_slots.specs.declared.look.Look.TheVariants.{Own, Node}
+use Rattle.draft_slots.specs.declared.look.Peek.{Peek}
+use Rattle.draft_slots.specs.declared.look.Peek.TheVariants.{Read, Untouched}
 use Rattle.run_heap.specs.declared.content.Content.{Content}
-use Rattle.run_heap.specs.Heap.{Heap, copied, opened, drafts, is_draft, is_foreign, shown, given_content}
-use Rattle.run_heap.specs.Laws.{no_place, place_within, opened_sound, shown_content, value_stored}
+use Rattle.run_heap.specs.Heap.{Heap, copied, opened, drafts, is_draft, is_foreign, shown, after, given_content}
+use Rattle.run_heap.specs.Laws.{right_true, get_none, no_place, place_within, opened_sound, shown_content, value_stored}
 use Rattle.run_heap.specs.Operations as spec
-use Rattle.run_heap.specs.Sound.{IsSound, IsContent, IsContainer, IsStored, RowsStored, Owned, ascends}
+use Rattle.run_heap.specs.Places.{path_to}
+use Rattle.run_heap.specs.Sound.{IsSound, IsContent, IsContainer, IsObject, IsStored, RowsStored, Owned, ascends}
 use Rattle.draft_core.specs.declared.scope.Scope.{Scope}
-use Rattle.draft_core.specs.Seen.{heap, Stands, kept_heap, kept_object}
+use Rattle.draft_core.specs.Seen.{heap, Stands, IsPeek, kept_heap, kept_object}
 
 -- ---- the store that has grown
 pub same_tree : (ts : List Tree) (n id : ℕ) → IsNumber (take n ts) id → tree_at (take n ts) id ≡ tree_at ts id
@@ -202,11 +209,103 @@ frozen_cell : (t : Tree) (id : ℕ) → cell_of t ≡ cell.Node id → spec.froz
 frozen_cell (prim k) id h = absurd (cc)
 frozen_cell (node i of es) id h = let e : i ≡ id = cc in ap Frozen e
 
-original_as : (h : Heap) (v : Rv) (a b : Bool) (w : Rv) → is_foreign h v ≡ a → not (is_draft h v) ≡ b → spec.frozen_at (place (spec.slot_of v) (tree_at h.states h.root)) ≡ w → spec.original h v ≡ (if a then Err fault.Revoked else (if b then Err fault.NotADraft else Ok w))
-original_as h v a b w p q r = rw (p, q, r) refl
+pub same_scope : (ts : List Tree) (s : Scope) (v : Rv) (r : ObjRef) → v ≡ Obj r → spec.owns (heap ts s) v ≡ true → r.scope ≡ s.number
+same_scope ts s v r is o = let e : (r.scope == s.number) ≡ true = owns_object ts s v r is ∙ o in grind (arith, e)
+
+of_cell : (us : List Tree) (t : Tree) (id : ℕ) → cell_of t ≡ cell.Node id → IsOf us t → IsNumber us id
+of_cell us (prim k) id h o = absurd (cc)
+of_cell us (node i of es) id h o = let e : i ≡ id = cc in subst (IsNumber us) e o.0
+
+place_is : (ts : List Tree) (s : Scope) (v : Rv) (r : ObjRef) → v ≡ Obj r → place (spec.slot_of v) (tree_at (heap ts s).states (heap ts s).root) ≡ place r.slot (tree_at (take s.len ts) s.root)
+place_is ts s v r is = unfold heap in ap (λ (x : Rv). place (spec.slot_of x) (tree_at (take s.len ts) s.root)) is
+
+ours : (ts : List Tree) (s : Scope) (v : Rv) (r : ObjRef) → v ≡ Obj r → r.scope ≡ s.number → is_foreign (heap ts s) v ≡ false
+ours ts s v r is here =
+    let yes : (r.scope == s.number) ≡ true = grind (arith, here) in
+    rw (is, scope_is ts s, yes) refl
+
+-- whether it is a draft, where it is of this scope
+drafted : (ts : List Tree) (s : Scope) (v : Rv) (r : ObjRef) (b : Bool) → Stands ts s → v ≡ Obj r → r.scope ≡ s.number → nat_lt r.slot s.drafts ≡ b → is_draft (heap ts s) v ≡ b
+drafted ts s v r b st is here l =
+    let yes : (r.scope == s.number) ≡ true = grind (arith, here) in
+    sym (draft_is ts s v r st is) ∙ rw (yes, l) refl
+
+original_as : (h : Heap) (v : Rv) (b : Bool) (w : Rv) → is_foreign h v ≡ false → is_draft h v ≡ b → spec.frozen_at (place (spec.slot_of v) (tree_at h.states h.root)) ≡ w → spec.original h v ≡ (if not b then Err fault.NotADraft else Ok w)
+original_as h v b w p q r = rw (p, q, r) refl
 
 pub original_draft : (ts : List Tree) (s : Scope) (v : Rv) (r : ObjRef) (id : ℕ) → Stands ts s → v ≡ Obj r → r.scope ≡ s.number → r.slot < s.drafts → IsNumber ts id → place r.slot (tree_at ts s.root) ≡ Some (tree_at ts id) → spec.original (heap ts s) v ≡ Ok (Frozen id)
-original_draft ts s v r id st is here l n at = ?
+original_draft ts s v r id st is here l n at =
+    let yes : nat_lt r.slot s.drafts ≡ true = grind (arith, l) in
+    let there = place_is ts s v r is ∙ place_now ts s r.slot st ∙ at in
+    original_as (heap ts s) v true (Frozen id) (ours ts s v r is here) (drafted ts s v r true st is here yes)
+    (ap spec.frozen_at there ∙ frozen_cell (tree_at ts id) id (cell_again ts (cell.Node id) st.store n))
 
 pub original_none : (ts : List Tree) (s : Scope) (v : Rv) (r : ObjRef) → Stands ts s → v ≡ Obj r → r.scope ≡ s.number → s.drafts ≤ r.slot → spec.original (heap ts s) v ≡ Err fault.NotADraft
-original_none ts s v r st is here l = ?
+original_none ts s v r st is here l =
+    let no : nat_lt r.slot s.drafts ≡ false = grind (arith, l) in
+    original_as (heap ts s) v false _ (ours ts s v r is here) (drafted ts s v r false st is here no) refl
+
+-- the container that a draft was opened on was there at the beginning
+pub opened_on : (ts : List Tree) (s : Scope) (n id : ℕ) → Stands ts s → IsNumber ts id → place n (tree_at ts s.root) ≡ Some (tree_at ts id) → IsNumber (heap ts s).states id
+opened_on ts s n id st h at =
+    let there = place_now ts s n st ∙ at in
+    let store : IsStore (take s.len ts) = subst IsStore (states_are ts s) st.sound.store in
+    let o = place_of (take s.len ts) store n (tree_at (take s.len ts) s.root) (tree_at ts id) (of_number (take s.len ts) s.root store st.root) there in
+    rw (states_are ts s) (of_cell (take s.len ts) (tree_at ts id) id (cell_again ts (cell.Node id) st.store h) o)
+
+-- ---- the object of a draft that is untouched
+pub node_copied : (ts : List Tree) (s : Scope) (n id : ℕ) (g : Given) → Stands ts s → place n (tree_at ts s.root) ≡ Some (tree_at ts id) → g ≡ given.From (record { scope = s.number; slot = n + 1 }) → copied s.number n (place n (tree_at (take s.len ts) s.root)) ≡ given_content g (tree_at ts id)
+node_copied ts s n id g st at is = ap (copied s.number n) (place_now ts s n st ∙ at) ∙ ap (λ (x : Given). given_content x (tree_at ts id)) (sym is)
+
+pub owns_ours : (h : Heap) (v : Rv) → spec.owns h v ≡ true → is_foreign h v ≡ false
+owns_ours h v o = elim (is_foreign h v) as (λ b. not b ≡ true → b ≡ false) [ true ↦ λ e. absurd (cc) | false ↦ λ e. refl ] o
+
+-- ---- marks
+pub marked_later : (ts : List Tree) (s : Scope) (n : ℕ) (o : Option Content) → s.drafts ≤ n → slice_get s.later.items (n - s.drafts) ≡ o → spec.is_marked ((heap ts s).object n) ≡ spec.is_marked o
+marked_later ts s n o low e =
+    let no : nat_lt n s.drafts ≡ false = grind (arith, low) in
+    let there : (heap ts s).object n ≡ o = object_is ts s n ∙ rw no e in
+    ap spec.is_marked there
+
+unmarked : (scope n : ℕ) (t : Option Tree) → spec.is_marked (copied scope n t) ≡ false
+unmarked scope n None = refl
+unmarked scope n (Some (prim k)) = refl
+unmarked scope n (Some (node id of es)) = refl
+
+pub marked_touched : (ts : List Tree) (s : Scope) (n : ℕ) (o : Option Content) → n < s.drafts → get nat_cmp s.touched n ≡ o → spec.is_marked ((heap ts s).object n) ≡ spec.is_marked o
+marked_touched ts s n (Some c) l e = ap spec.is_marked (touched_is ts s n (Some c) l e)
+marked_touched ts s n None l e = ap spec.is_marked (touched_is ts s n None l e) ∙ unmarked s.number n (place n (tree_at (take s.len ts) s.root))
+
+pub object_owned : (h : Heap) (v : Rv) → IsObject h v → Owned h v
+object_owned h Undefined o = absurd o
+object_owned h (Prim k) o = absurd o
+object_owned h (Obj r) o = λ e. o.1
+object_owned h (Frozen id) o = absurd o
+
+pub get_at : (cs ds : List Content) (i : ℕ) (c : Content) → ds ≡ cs → i < length ds → c ≡ get_or ds i c → slice_get cs i ≡ Some c
+get_at cs ds i c e l is =
+    let inside : i < length cs = subst (λ (xs : List Content). i < length xs) e l in
+    get_in cs i c inside ∙ ap (λ (x : Content). let o : Option Content = Some x in o) (sym (is ∙ ap (λ (xs : List Content). get_or xs i c) e))
+
+pub get_past : (cs ds : List Content) (i : ℕ) → ds ≡ cs → length ds ≤ i → slice_get cs i ≡ None
+get_past cs ds i e l = get_none cs i (subst (λ (xs : List Content). length xs ≤ i) e l)
+
+-- ---- a value as it is kept
+pub peek_is : (ts : List Tree) (h : Heap) (of : Rv) (l : Look) (i : ℕ) (p : Peek) → looked ts l ≡ shown h of → IsKept ts l i p → IsPeek h of i p
+peek_is ts h of (Own c) i (Read v) e k = rw (sym e) k
+peek_is ts h of (Own c) i (Untouched d) e k = absurd k
+peek_is ts h of (Node id g) i (Read v) e k = absurd k
+peek_is ts h of (Node id g) i (Untouched d) e k = (after g (before i (branches_of (tree_at ts id))), ap (λ (o : Option Content). spec.value_at i (spec.rows_of o)) (sym e) ∙ ap (spec.value_at i) (rows_node g (tree_at ts id)) ∙ k)
+
+-- ---- the path of a draft
+pub draft_path : (ts : List Tree) (s : Scope) (v : Rv) (r : ObjRef) → Stands ts s → v ≡ Obj r → path_to r.slot (tree_at ts s.root) ≡ path_to (spec.slot_of v) (tree_at (heap ts s).states (heap ts s).root)
+draft_path ts s v r st is =
+    let whole : path_to (spec.slot_of v) (tree_at (heap ts s).states (heap ts s).root) ≡ path_to r.slot (tree_at (take s.len ts) s.root) = unfold heap in ap (λ (x : Rv). path_to (spec.slot_of x) (tree_at (take s.len ts) s.root)) is in
+    sym (whole ∙ ap (path_to r.slot) (same_tree ts s.len s.root st.root))
+
+pub draft_inside : (ts : List Tree) (s : Scope) (v : Rv) (r : ObjRef) → Stands ts s → v ≡ Obj r → is_draft (heap ts s) v ≡ true → r.slot < containers (tree_at ts s.root)
+draft_inside ts s v r st is d =
+    let low : nat_lt r.slot s.drafts ≡ true = right_true _ _ (draft_is ts s v r st is ∙ d) in
+    let l : r.slot < s.drafts = grind (arith, low) in
+    let count = st.drafts ∙ ap containers (same_tree ts s.len s.root st.root) in
+    omega (arith, l, count)

@@ -1,3 +1,11 @@
+pub mod Changed
+pub mod Fresh
+pub mod Keeping
 pub mod Kept
+pub mod Lists
+pub mod Marks
+pub mod Paths
+pub mod Plans
 pub mod Seen
+pub mod Tables
 pub mod Writes

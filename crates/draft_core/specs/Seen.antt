@@ -1,17 +1,16 @@
 -- The heap that a scope stands for, over a store that extends the one at its beginning.
-use Rattle.std.specs.Prelude.{◌≡◌, ℕ, ◌+◌, ◌-◌, ◌≤◌, List, length, take, Option, Some, None, nat_lt, if◌then◌else◌, slice_get, IfSome}
+use Rattle.std.specs.Prelude.{◌≡◌, ℕ, ◌+◌, ◌-◌, ◌≤◌, List, length, take, Option, Some, None, nat_lt, if◌then◌else◌, slice_get}
 use Rattle.std.specs.BTreeMap.{get}
 use Rattle.std.specs.Option.{option_or}
 use Rattle.std.specs.Ordering.{nat_cmp}
 use Rattle.numbered.specs.Store.{IsNumber, IsStore, tree_at}
 use Rattle.numbered.specs.Tree.{Tree, containers, place}
-use Rattle.node_store.specs.declared.node.Cell.{Cell}
-use Rattle.node_store.specs.declared.node.Cell.TheVariants as cell
 use Rattle.run_heap.specs.declared.value.Rv.{Rv}
-use Rattle.run_heap.specs.declared.value.Rv.TheVariants.{Prim}
+use Rattle.run_heap.specs.declared.value.Given.{Given}
+use Rattle.draft_slots.specs.Nodes.{given_cell}
 use Rattle.run_heap.specs.declared.content.Content.{Content}
 use Rattle.run_heap.specs.Heap.{Heap, copied}
-use Rattle.run_heap.specs.Operations.{table_of, value_at, source}
+use Rattle.run_heap.specs.Operations.{table_of, value_at}
 use Rattle.run_heap.specs.Sound.{IsSound}
 use Rattle.draft_core.specs.declared.scope.Scope.{Scope}
 use Rattle.draft_slots.specs.declared.look.Peek.{Peek}
@@ -46,12 +45,7 @@ pub record Stands (ts : List Tree) (s : Scope) : Type 0 where
   pub drafts : s.drafts ≡ containers (tree_at (take s.len ts) s.root)
   pub sound : IsSound (heap ts s)
 
--- a cell of a node shows a value: a primitive, or the container whose source it names
-abbrev pub IsCell : Heap → Rv → ℕ → Cell → Type 0
-IsCell h of i (cell.Prim k) = value_at i (table_of h of) ≡ Some (Prim k)
-IsCell h of i (cell.Node id) = IfSome (value_at i (table_of h of)) (λ v. source h v ≡ Some id)
-
--- the i-th value of a container as it is kept
+-- the i-th value of a container as it is kept: a value, or a cell of a node, whose containers are given out
 abbrev pub IsPeek : Heap → Rv → ℕ → Peek → Type 0
 IsPeek h of i (Read v) = value_at i (table_of h of) ≡ Some v.now
-IsPeek h of i (Untouched c) = IsCell h of i c.now
+IsPeek h of i (Untouched c) = (g : Given) × (value_at i (table_of h of) ≡ Some (given_cell g c.now))

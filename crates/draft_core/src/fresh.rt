@@ -1,18 +1,20 @@
 //! Calls that make objects.
-ghost use Rattle.std.specs.Prelude.{◌≡◌, ◌+◌, ◌≤◌, List, None};
+ghost use Rattle.std.specs.Prelude.{◌≡◌, ◌+◌, ◌≤◌, [], List, None};
 ghost use Rattle.numbered.specs.Tree.{Tree};
 ghost use Rattle.value_model.specs.Limits.{value_limit};
 ghost use Rattle.value_model.specs.declared.words.Kind.TheVariants as kind;
-ghost use Rattle.run_heap.specs.Answers.{Does, Makes};
-ghost use Rattle.run_heap.specs.Heap.{next_object};
+ghost use Rattle.run_heap.specs.Answers.{Answers, Does, Makes};
+ghost use Rattle.run_heap.specs.Heap.{next_object, with_object};
 ghost use Rattle.run_heap.specs.Operations as spec;
+ghost use Rattle.run_heap.specs.Operations.{read};
 ghost use Rattle.run_heap.specs.Sound.{Owned, Grows};
+ghost use Rattle.draft_core.specs.Fresh.{IsLiteral};
 ghost use Rattle.draft_core.specs.Seen.{heap, Stands};
 ghost use Rattle.draft_core.specs.Writes.{slots};
 
 use crate::scope::Scope;
 use node_store::{Kind, Store};
-use run_heap::{DraftFault, Rv};
+use run_heap::{Content, DraftFault, ObjRef, Rv, Table};
 use std::alloc::{AllocError, Global};
 use values::Val;
 
@@ -24,7 +26,12 @@ impl Scope {
         ensures grows { (ts : List Tree) → Stands ts self.old → Grows (heap ts self.old) (heap ts self.new) }
         ensures tables { slots self.new ≤ slots self.old + 1 }
     {
-        Err(AllocError)
+        self.make(Content {
+            kind,
+            table: Table::from_vec(Vec::new(alloc)),
+            source: None,
+            written: false,
+        })
     }
 
     /// A fresh empty object.
@@ -56,7 +63,48 @@ impl Scope {
         ensures grows { Grows (heap store.now self.old) (heap store.now self.new) }
         ensures tables { slots self.new ≤ slots self.old + 1 }
     {
-        Err(DraftFault::Memory)
+        let table = self.key_list(alloc, store, of)?;
+        let list = Content {
+            kind: Kind::List,
+            table,
+            source: None,
+            written: false,
+        };
+        Ok(self.make(list)?)
+    }
+
+    /// An object's keys as elements of a list, or the refusal of `keys`.
+    fn key_list(&self, alloc: Global, store: &Store, of: &Rv) -> Result<Table, DraftFault>
+        requires stands { Stands store.now self.now }
+        requires owned { Owned (heap store.now self.now) of.now }
+        ensures { Answers result (read spec.keys_shown (heap store.now self.now) of.now []) }
+    {
+        if !self.owns(of) {
+            return Err(DraftFault::Revoked);
+        }
+        match self.look(store, of) {
+            Some(look) => match look.kind(store) {
+                Kind::Obj => Ok(look.keys(alloc, store)?),
+                _ => Err(DraftFault::TypeMismatch),
+            },
+            None => Err(DraftFault::TypeMismatch),
+        }
+    }
+
+    /// Makes an object.
+    fn make(&mut self, content: Content) -> Result<Rv, AllocError>
+        requires { IsLiteral content }
+        ensures done { (ts : List Tree) → Stands ts self.old → Makes result (heap ts self.old) (heap ts self.new) (with_object content (heap ts self.old)) (next_object (heap ts self.old)) }
+        ensures stands { (ts : List Tree) → Stands ts self.old → Stands ts self.new }
+        ensures grows { (ts : List Tree) → Stands ts self.old → Grows (heap ts self.old) (heap ts self.new) }
+        ensures tables { slots self.new ≤ slots self.old + 1 }
+    {
+        let slot = self.drafts as u64 + self.later.len() as u64;
+        self.later.push(content)?;
+        Ok(Rv::Obj(ObjRef {
+            scope: self.number,
+            slot,
+        }))
     }
 
     /// Fresh literals of a plain value: its containers get the next names in post-order. After want of memory all is as before.

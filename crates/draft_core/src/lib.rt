@@ -5,9 +5,12 @@
 #![tactic(auto)]
 
 mod fresh;
+mod lists;
 mod mint;
+mod plans;
 mod reads;
 mod scope;
+mod tables;
 mod writes;
 
 pub use draft_slots::Peek;

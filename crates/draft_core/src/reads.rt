@@ -1,8 +1,11 @@
 //! Calls that read. None of them makes an object's table.
-ghost use Rattle.std.specs.Prelude.{◌≡◌, ◌≢◌, ◌<◌, ◌≤◌, List, length, IfOk, IfSome, Some, false};
+ghost use Rattle.std.specs.BTreeMap.{get};
+ghost use Rattle.std.specs.List.{list_any, All};
+ghost use Rattle.std.specs.Ordering.{nat_cmp};
+ghost use Rattle.std.specs.Prelude.{◌^◌, ◌&&◌, nat_lt, ◌≡◌, ◌≢◌, ◌<◌, ◌≤◌, List, length, IfOk, IfSome, Some, false, slice_get};
 ghost use Rattle.node_store.specs.Nodes.{cells_of};
-ghost use Rattle.numbered.specs.Store.{tree_at};
-ghost use Rattle.numbered.specs.Tree.{Tree, containers};
+ghost use Rattle.numbered.specs.Store.{IsNumber, IsStore, tree_at};
+ghost use Rattle.numbered.specs.Tree.{Tree, branches_of, children, containers};
 ghost use Rattle.value_model.specs.declared.words.Kind.TheVariants as kind;
 ghost use Rattle.run_heap.specs.Answers.{Answers};
 ghost use Rattle.run_heap.specs.Heap.{is_foreign};
@@ -10,14 +13,16 @@ ghost use Rattle.run_heap.specs.Operations as spec;
 ghost use Rattle.run_heap.specs.Places as places;
 ghost use Rattle.run_heap.specs.Sound.{Fits, Owned, IsContainer, IsStored};
 ghost use Rattle.run_heap.specs.Values.{same};
+ghost use Rattle.draft_core.specs.Paths.{HasPlaces, IsStep};
 ghost use Rattle.draft_core.specs.Seen.{heap, Stands, IsPeek};
 
 use crate::scope::Scope;
 use draft_slots::Peek;
 use node_store::{Cell, Kind, NodeId, Store};
-use run_heap::{DraftFault, Rv};
+use run_heap::{Content, DraftFault, Rv};
 use std::alloc::{AllocError, Global};
-use value_model::Key;
+use std::collections::BTreeMap;
+use value_model::{Key, Safe};
 use values::Path;
 
 impl Scope {
@@ -74,7 +79,7 @@ impl Scope {
         }
         match v {
             Rv::Obj(object) => {
-                if object.slot < self.drafts {
+                if object.slot < self.drafts as u64 {
                     Ok(Rv::Frozen(store.locate(self.root, object.slot)))
                 } else {
                     Err(DraftFault::NotADraft)
@@ -88,7 +93,7 @@ impl Scope {
     pub fn any_written(&self) -> bool
         ensures { (ts : List Tree) → Stands ts self.now → result ≡ spec.any_written (heap ts self.now) }
     {
-        self.touched.values().any(|content| content.written)
+        any_marked(&self.touched, self.drafts)
     }
 
     /// What kind of container a value is, None exactly for `Undefined` and a primitive. It takes no memory.
@@ -108,7 +113,8 @@ impl Scope {
     pub fn count(&self, store: &Store, of: &Rv) -> usize
         requires stands { Stands store.now self.now }
         requires container { IsContainer (heap store.now self.now) of.now }
-        ensures { result ≡ spec.count (heap store.now self.now) of.now }
+        ensures value { result ≡ spec.count (heap store.now self.now) of.now }
+        ensures small { result < 2 ^ 63 }
     {
         match self.look(store, of) {
             Some(look) => look.count(store),
@@ -213,7 +219,12 @@ impl Scope {
     }
 
     /// The path of a draft in the opening state, None exactly for what isn't a draft.
-    pub fn place_of(&self, alloc: Global, store: &Store, of: &Rv) -> Result<Option<Path>, AllocError>
+    pub fn place_of(
+        &self,
+        alloc: Global,
+        store: &Store,
+        of: &Rv,
+    ) -> Result<Option<Path>, AllocError>
         requires { Stands store.now self.now }
         ensures { IfOk result (λ p. p ≡ places.place_of (heap store.now self.now) of.now) }
     {
@@ -233,8 +244,8 @@ impl Scope {
     fn written_at(&self, name: u64) -> bool
         ensures { (ts : List Tree) → Stands ts self.now → name < (heap ts self.now).next → result ≡ spec.is_marked ((heap ts self.now).object name) }
     {
-        if name >= self.drafts {
-            return match self.later.get((name - self.drafts) as usize) {
+        if name >= self.drafts as u64 {
+            return match self.later.get((name - self.drafts as u64) as usize) {
                 Some(content) => content.written,
                 None => false,
             };
@@ -246,9 +257,18 @@ impl Scope {
     }
 }
 
+/// Whether a draft's table is marked.
+fn any_marked(touched: &BTreeMap<u64, Content>, drafts: u32) -> bool
+    ensures marks { result ≡ list_any (λ e. nat_lt e.0 drafts && e.1.written) touched.now.entries }
+    ensures found { All (λ e. get nat_cmp touched.now e.0 ≡ Some e.1) touched.now.entries }
+{
+    touched.iter().any(|(name, content)| (*name < drafts as u64) & content.written)
+}
+
 /// The path of the n-th container place of a state.
 fn path_to(alloc: Global, store: &Store, root: NodeId, n: u64) -> Result<Path, AllocError>
-    requires number { root ≤ length store.now }
+    requires store { IsStore store.now }
+    requires number { IsNumber store.now root }
     requires inside { n < containers (tree_at store.now root) }
     ensures { IfOk result (λ p. p ≡ places.path_to n (tree_at store.now root)) }
 {
@@ -266,16 +286,27 @@ fn path_to(alloc: Global, store: &Store, root: NodeId, n: u64) -> Result<Path, A
 
 /// The step to an entry: an index of a list, else the key.
 fn step(alloc: Global, store: &Store, id: NodeId, i: usize) -> Result<Key, AllocError>
-    requires number { id ≤ length store.now }
+    requires store { IsStore store.now }
+    requires number { IsNumber store.now id }
     requires in_range { i < length (cells_of (tree_at store.now id)) }
+    ensures { IfOk result (λ k. IsStep (tree_at store.now id) i k) }
 {
-    Ok(Key::Null)
+    match store.kind(id) {
+        Kind::List => match Safe::of(i as i64) {
+            Some(index) => Ok(Key::Int(index)),
+            None => unreachable!(),
+        },
+        _ => store.key(id, i).copy(alloc),
+    }
 }
 
 /// The container in an entry.
 fn child(store: &Store, id: NodeId, i: usize) -> NodeId
-    requires number { id ≤ length store.now }
+    requires number { IsNumber store.now id }
     requires in_range { i < length (cells_of (tree_at store.now id)) }
+    requires inside { HasPlaces i (branches_of (tree_at store.now id)) }
+    ensures number { IsNumber store.now result }
+    ensures child { slice_get (children (branches_of (tree_at store.now id))) i ≡ Some (tree_at store.now result) }
 {
     match store.cell(id, i) {
         Cell::Node(child) => *child,

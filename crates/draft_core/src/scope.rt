@@ -24,7 +24,7 @@ pub struct Scope {
     /// How many nodes the store had at the beginning.
     pub(crate) len: u64,
     /// How many drafts there are.
-    pub(crate) drafts: u64,
+    pub(crate) drafts: u32,
     /// The drafts that have a table of their own, by name.
     pub(crate) touched: BTreeMap<u64, Content>,
     /// The later objects, in the order of their names.
@@ -48,7 +48,7 @@ impl Scope {
             number: ticket.number(),
             root,
             len: store.len(),
-            drafts: store.containers(root),
+            drafts: store.containers(root) as u32,
             touched: BTreeMap::new(alloc),
             later: Vec::new(alloc),
         })
@@ -88,7 +88,7 @@ impl Scope {
         ensures { (ts : List Tree) → Stands ts self.now → result ≡ is_draft (heap ts self.now) v.now }
     {
         match v {
-            Rv::Obj(object) => (object.scope == self.number) & (object.slot < self.drafts),
+            Rv::Obj(object) => (object.scope == self.number) & (object.slot < self.drafts as u64),
             _ => false,
         }
     }
@@ -114,8 +114,8 @@ impl Scope {
         ensures shown { looked store.now result ≡ (heap store.now self.now).object name }
         ensures look { IsLook store.now result }
     {
-        if name >= self.drafts {
-            return Look::Own(&self.later[(name - self.drafts) as usize]);
+        if name >= self.drafts as u64 {
+            return Look::Own(&self.later[(name - self.drafts as u64) as usize]);
         }
         match self.touched.get(&name) {
             Some(content) => Look::Own(content),
@@ -124,7 +124,7 @@ impl Scope {
     }
 
     /// How the containers inside an untouched draft are given out.
-    fn given(&self, name: u64) -> Given
+    pub(crate) fn given(&self, name: u64) -> Given
         requires { name < self.now.drafts }
         ensures { result ≡ Given.From (record { scope = self.now.number; slot = name + 1 }) }
     {

@@ -5,10 +5,13 @@ ghost use Rattle.run_heap.specs.Answers.{Does, Leaves};
 ghost use Rattle.run_heap.specs.Operations as spec;
 ghost use Rattle.run_heap.specs.Operations.{rewrite, table_of};
 ghost use Rattle.run_heap.specs.Sound.{Owned, IsObject, AllStored, Grows};
+ghost use Rattle.draft_core.specs.Plans.{Plans, MayRemove};
 ghost use Rattle.draft_core.specs.Seen.{heap, Stands};
 ghost use Rattle.draft_slots.specs.Looks.{changed, MayChange};
+ghost use Rattle.draft_core.specs.Tables.{SameRoom};
 ghost use Rattle.draft_core.specs.Writes.{MayStand, KeepsTable, slots};
 
+use crate::plans::{plan_put, plan_remove};
 use crate::scope::Scope;
 use draft_slots::Change;
 use node_store::Store;
@@ -36,7 +39,9 @@ impl Scope {
         ensures grows { Grows (heap store.now self.old) (heap store.now self.new) }
         ensures tables { slots self.new ≤ slots self.old + 1 }
     {
-        Err(DraftFault::Memory)
+        let change = self.plan_put(alloc, store, of, key, value)?;
+        self.change(alloc, store, of, change)?;
+        Ok(())
     }
 
     /// Removes an object's entry by a text; where it is absent nothing changes. `TypeMismatch` for what isn't an object with a
@@ -55,7 +60,9 @@ impl Scope {
         ensures grows { Grows (heap store.now self.old) (heap store.now self.new) }
         ensures tables { slots self.new ≤ slots self.old + 1 }
     {
-        Err(DraftFault::Memory)
+        self.may_remove(store, of, key)?;
+        self.change(alloc, store, of, Change::Unset(key))?;
+        Ok(())
     }
 
     /// Replaces the elements of a list from `from` up to `to` by these. After want of memory all is as before.
@@ -121,8 +128,49 @@ impl Scope {
         self.change(alloc, store, of, Change::Clear)
     }
 
+    /// The change that `put` makes, or its refusal.
+    fn plan_put<'a>(
+        &self,
+        alloc: Global,
+        store: &Store,
+        of: &Rv,
+        key: &Key,
+        value: Rv,
+    ) -> Result<Change<'a>, DraftFault>
+        requires stands { Stands store.now self.now }
+        requires owned { Owned (heap store.now self.now) of.now }
+        requires value { Owned (heap store.now self.now) value }
+        ensures { Plans (heap store.now self.now) of.now result (spec.put_at key.now value (heap store.now self.now) of.now) }
+    {
+        if !self.owns(of) {
+            return Err(DraftFault::Revoked);
+        }
+        if !self.owns(&value) {
+            return Err(DraftFault::Revoked);
+        }
+        match self.look(store, of) {
+            Some(look) => plan_put(alloc, store, &look, of, key, value),
+            None => Err(DraftFault::TypeMismatch),
+        }
+    }
+
+    /// Whether `remove` may be made, or its refusal.
+    fn may_remove(&self, store: &Store, of: &Rv, key: &Key) -> Result<(), DraftFault>
+        requires stands { Stands store.now self.now }
+        requires owned { Owned (heap store.now self.now) of.now }
+        ensures { MayRemove (heap store.now self.now) of.now key.now result (spec.remove_at key.now (heap store.now self.now) of.now) }
+    {
+        if !self.owns(of) {
+            return Err(DraftFault::Revoked);
+        }
+        match self.look(store, of) {
+            Some(look) => plan_remove(store, &look, of, key),
+            None => Err(DraftFault::TypeMismatch),
+        }
+    }
+
     /// Makes a change of an object's table.
-    fn change(
+    pub(crate) fn change(
         &mut self,
         alloc: Global,
         store: &Store,
@@ -136,8 +184,15 @@ impl Scope {
         ensures done { Leaves result (heap store.now self.old) (heap store.now self.new) (rewrite (changed change.entry) (heap store.now self.old) of.now) }
         ensures stands { Stands store.now self.new }
         ensures grows { Grows (heap store.now self.old) (heap store.now self.new) }
+        ensures room { SameRoom self.old self.new }
         ensures tables { slots self.new ≤ slots self.old + 1 }
     {
-        Err(AllocError)
+        match of {
+            Rv::Obj(object) => {
+                self.open(alloc, store, object.slot)?;
+                self.rewrite_at(alloc, object.slot, change)
+            }
+            _ => unreachable!(),
+        }
     }
 }

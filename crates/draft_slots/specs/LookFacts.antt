@@ -1,9 +1,9 @@
 -- What a look at a node shows.
-use Rattle.std.proofs.Common.{◌≡◌, ℕ, zero, suc, ◌<◌, List, [], ◌∷◌, ◌++◌, length, drop, refl, ap, sym, ◌∙◌, subst, arith, true, false, cond}
+use Rattle.std.proofs.Common.{◌≡◌, ◌≢◌, ℕ, zero, suc, ◌<◌, List, [], ◌∷◌, ◌++◌, length, drop, refl, ap, sym, ◌∙◌, subst, arith, true, false, cond}
 use Rattle.std.proofs.Math.Seq.{drop-nil}
 use Rattle.std.proofs.lemmas.List.{append-nil, append_assoc}
 use Rattle.std.specs.Ordering.{is_eq}
-use Rattle.std.specs.Prelude.{Option, Some, None, option_map, slice_get, Ok, ◌^◌, ◌+◌, ◌≤◌, if◌then◌else◌}
+use Rattle.std.specs.Prelude.{◌^◌, Option, Some, None, option_map, slice_get, Ok, ◌+◌, ◌≤◌, if◌then◌else◌}
 use Rattle.std.specs.FinMap.Entries.{find}
 use Rattle.value_model.specs.declared.key.Key.{Key}
 use Rattle.value_model.specs.declared.key.Key.TheVariants as key
@@ -11,18 +11,21 @@ use Rattle.value_model.specs.Limits.{is_reserved_text}
 use Rattle.value_model.specs.declared.words.Kind.{Kind}
 use Rattle.value_model.specs.declared.words.Kind.TheVariants as kind
 use Rattle.value_model.specs.Order.{key_cmp}
-use Rattle.numbered.specs.Laws.{before_le}
+use Rattle.value_model.specs.Plain as plain_value
+use Rattle.value_model.specs.Plain.{Plain, values, values_in}
+use Rattle.numbered.specs.Laws.{before_le, values_at}
 use Rattle.numbered.specs.Store.{IsNumber, IsStore, tree_at}
-use Rattle.numbered.specs.Tree.{Tree, prim, node, branches_of, containers_in, before}
-use Rattle.node_store.specs.Nodes.{kind_of, cells_of, cell_of}
+use Rattle.numbered.specs.Tree.{Tree, Branches, prim, node, none, branch, plain, plains, branches_of, before}
+use Rattle.node_store.specs.Nodes.{kind_of, cells_of, cells_in, cell_of}
 use Rattle.node_store.specs.Tables.{cell_again}
 use Rattle.node_store.specs.declared.node.Cell.TheVariants as cell
 use Rattle.run_heap.specs.declared.value.Given.{Given}
 use Rattle.run_heap.specs.declared.value.Given.TheVariants as given
 use Rattle.run_heap.specs.declared.value.Rv.{Rv}
+use Rattle.run_heap.specs.declared.value.Rv.TheVariants.{Prim}
 use Rattle.run_heap.specs.declared.content.Content.{Content}
 use Rattle.run_heap.specs.Heap.{given_content}
-use Rattle.run_heap.specs.Operations.{Rows, rows_of, source_in, value_at, position, entry, then_read, or_undefined}
+use Rattle.run_heap.specs.Operations.{Rows, rows_of, source_in, value_at, position, entry, then_read, or_undefined, keys_of, listed, item}
 use Rattle.draft_slots.specs.declared.look.Look.{Look}
 use Rattle.draft_slots.specs.declared.look.Look.TheVariants.{Own, Node}
 use Rattle.draft_slots.specs.Looks.{looked, IsLook, kind_in, Fit, GivenFits}
@@ -38,6 +41,22 @@ kind_node g (node id of es) = refl
 
 pub count_node : (g : Given) (t : Tree) → length (rows_of (given_content g t)) ≡ length (cells_of t)
 count_node g t = ap length (rows_node g t) ∙ table_length g (branches_of t)
+
+-- a node has few cells
+some_value : (v : Plain) → 1 ≤ values v
+some_value (plain_value.prim k) = omega arith
+some_value (plain_value.node of es) = omega arith
+
+cells_le_values : (es : Branches) → length (cells_in es) ≤ values_in (plains es)
+cells_le_values none = omega arith
+cells_le_values (branch k v es) = omega (arith, some_value (plain v), cells_le_values es)
+
+cells_below : (t : Tree) → length (cells_of t) ≤ values (plain t)
+cells_below (prim k) = omega arith
+cells_below (node id of es) = omega (arith, cells_le_values es)
+
+pub few_cells : (ts : List Tree) (id : ℕ) → IsStore ts → IsNumber ts id → length (cells_of (tree_at ts id)) ≤ 2 ^ 20
+few_cells ts id s h = omega (arith, cells_below (tree_at ts id), values_at ts id s h)
 
 source_cell : (g : Given) (t : Tree) (id : ℕ) → cell_of t ≡ cell.Node id → Some id ≡ source_in (given_content g t)
 source_cell g (prim k) id h = absurd (cc)
@@ -119,7 +138,6 @@ drop_all (e ∷ all) (suc n) l = drop_all all n (omega arith)
 pub all_there : (t all : Rows) (n : ℕ) → length all ≤ n → t ++ drop n all ≡ all → t ≡ all
 all_there t all n l w = sym (append-nil t) ∙ ap (λ (x : Rows). t ++ x) (sym (drop_all all n l)) ∙ w
 
-
 -- ---- a look shows a kind
 some_kind : (o : Option Content) (c : Content) → o ≡ Some c → Some (kind_in o) ≡ option_map (λ (d : Content). d.kind) o
 some_kind o c h = rw h refl
@@ -127,3 +145,20 @@ some_kind o c h = rw h refl
 pub looked_kind : (ts : List Tree) (l : Look) → IsLook ts l → Some (kind_in (looked ts l)) ≡ option_map (λ (d : Content). d.kind) (looked ts l)
 looked_kind ts (Own c) h = refl
 looked_kind ts (Node id g) h = some_kind (given_content g (tree_at ts id)) _ (content_node ts g id h.0 h.1)
+
+no_none : (o : Option Content) (c : Content) → o ≡ Some c → o ≢ None
+no_none o c h = rw h (λ q. absurd (cc))
+
+pub looked_some : (ts : List Tree) (l : Look) → IsLook ts l → looked ts l ≢ None
+looked_some ts (Own c) h = λ q. absurd (cc)
+looked_some ts (Node id g) h = no_none (given_content g (tree_at ts id)) _ (content_node ts g id h.0 h.1)
+
+-- ---- keys as elements of a list
+pub listed_at : (t : Rows) (i : ℕ) (k : Key) → slice_get (keys_of t) i ≡ Some k → slice_get (listed (keys_of t)) i ≡ Some (item (Prim k))
+listed_at [] i k h = absurd (cc)
+listed_at (e ∷ t) zero k h = let q : e.0 ≡ k = cc in ap (λ (j : Key). let o : Option (Key × Rv) = Some (item (Prim j)) in o) q
+listed_at (e ∷ t) (suc i) k h = listed_at t i k h
+
+pub listed_length : (t : Rows) → length (listed (keys_of t)) ≡ length t
+listed_length [] = refl
+listed_length (e ∷ t) = ap suc (listed_length t)

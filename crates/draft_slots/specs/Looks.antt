@@ -1,21 +1,18 @@
 -- What a look at a container shows, over a store of these states.
-use Rattle.std.specs.Prelude.{◌≡◌, ◌≢◌, ℕ, ◌+◌, ◌<◌, ◌≤◌, ◌^◌, List, [], ◌∷◌, length, Option, Some, None, IsTrue, IfSome, ⊤}
+use Rattle.std.specs.Prelude.{◌≡◌, ℕ, ◌+◌, ◌<◌, ◌≤◌, ◌^◌, List, [], length, Option, Some, None, IsTrue, ⊤}
 use Rattle.std.specs.FinMap.Entries.{is_sorted, put}
-use Rattle.value_model.specs.declared.key.Key.TheVariants as key
 use Rattle.value_model.specs.declared.words.Kind.{Kind}
 use Rattle.value_model.specs.declared.words.Kind.TheVariants as kind
 use Rattle.value_model.specs.Order.{key_cmp}
 use Rattle.numbered.specs.Store.{IsNumber, IsStore, tree_at}
 use Rattle.numbered.specs.Tree.{Tree, branches_of, containers_in}
-use Rattle.node_store.specs.declared.node.Cell.{Cell}
-use Rattle.node_store.specs.declared.node.Cell.TheVariants as cell
 use Rattle.run_heap.specs.declared.value.Rv.{Rv}
 use Rattle.run_heap.specs.declared.value.Rv.TheVariants.{Prim}
 use Rattle.run_heap.specs.declared.value.Given.{Given}
 use Rattle.run_heap.specs.declared.value.Given.TheVariants as given
 use Rattle.run_heap.specs.declared.content.Content.{Content}
 use Rattle.run_heap.specs.Heap.{given_content}
-use Rattle.run_heap.specs.Operations.{Rows, rows_of, value_at, without, set_element, spliced, emptied}
+use Rattle.run_heap.specs.Operations.{Rows, rows_of, value_at, without, set_element, spliced}
 use Rattle.run_heap.specs.Sound.{ascends, all_stand}
 use Rattle.draft_slots.specs.declared.change.Change.{Change}
 use Rattle.draft_slots.specs.declared.change.Change.TheVariants as change

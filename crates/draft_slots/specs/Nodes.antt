@@ -1,9 +1,8 @@
 -- A node's table as it is given out.
-use Rattle.std.proofs.Common.{◌≡◌, ◌≢◌, ℕ, zero, suc, ◌+◌, ◌<◌, ◌≤◌, List, [], ◌∷◌, length, get_or, map, refl, ap, sym, ◌∙◌, subst, arith, Bool, true, false, Less, Equal, Greater}
-use Rattle.std.specs.Prelude.{◌&&◌, Option, Some, None, option_map, IsTrue, MatchOption, IfSome, slice_get, not}
+use Rattle.std.proofs.Common.{◌≡◌, ◌≢◌, ℕ, zero, suc, ◌+◌, ◌<◌, List, [], ◌∷◌, length, get_or, refl, ap, sym, ◌∙◌, subst, arith, true, false, Less, Equal, Greater}
+use Rattle.std.specs.Prelude.{Option, Some, None, option_map, IsTrue, MatchOption, IfSome, slice_get}
 use Rattle.std.specs.FinMap.Entries.{is_sorted, below_all}
-use Rattle.std.specs.Ordering.{is_eq, is_lt, ordering_reverse}
-use Rattle.std.specs.declared.cmp.Ordering.{Ordering}
+use Rattle.std.specs.Ordering.{is_eq, ordering_reverse}
 use Rattle.std.proofs.lemmas.Cmp.{tied_itself}
 use Rattle.value_model.specs.declared.key.Key.{Key}
 use Rattle.value_model.specs.declared.key.Key.TheVariants as key
@@ -14,9 +13,9 @@ use Rattle.value_model.specs.Places.{ascends_at}
 use Rattle.value_model.specs.Plain.{Plain, list_of}
 use Rattle.value_model.specs.Search.{left_true, right_true, less_from_test}
 use Rattle.value_model.specs.Well.{well, all_fit}
-use Rattle.numbered.specs.Laws.{before_le, well_at}
+use Rattle.numbered.specs.Laws.{well_at}
 use Rattle.numbered.specs.Store.{IsNumber, IsStore, tree_at}
-use Rattle.numbered.specs.Tree.{Tree, Branches, prim, node, none, branch, plain, plains, containers, containers_in, branches_of, children, before}
+use Rattle.numbered.specs.Tree.{Tree, Branches, prim, node, none, branch, plain, plains, containers, branches_of, children, before}
 use Rattle.node_store.specs.Nodes.{kind_of, keys_of, keys_in, cells_of, cells_in, cell_of, cell_tree, CellBelow}
 use Rattle.node_store.specs.Tables.{cell_again}
 use Rattle.node_store.specs.declared.node.Cell.{Cell}
@@ -26,10 +25,9 @@ use Rattle.run_heap.specs.declared.value.Given.TheVariants as given
 use Rattle.run_heap.specs.declared.value.Rv.{Rv}
 use Rattle.run_heap.specs.declared.value.Rv.TheVariants.{Prim, Obj, Frozen}
 use Rattle.run_heap.specs.Laws.{sorted_given}
-use Rattle.run_heap.specs.Heap.{after, given_value, given_table, given_content}
+use Rattle.run_heap.specs.Heap.{after, given_value, given_table}
 use Rattle.run_heap.specs.Operations as spec
 use Rattle.run_heap.specs.Operations.{Rows, value_at, position}
-use Rattle.run_heap.specs.Values.{same}
 
 -- what a container with this number is given as
 abbrev pub given_node : Given → ℕ → Rv

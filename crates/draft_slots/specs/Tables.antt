@@ -1,10 +1,9 @@
 -- Tables in code: where a key is, and what changing an entry makes of the table.
-use Rattle.std.proofs.Common.{◌≡◌, ◌≢◌, ◌-◌, ℕ, zero, suc, ◌+◌, ◌<◌, ◌≤◌, List, [], ◌∷◌, ◌++◌, length, get_or, set, map, take, drop, refl, ap, sym, ◌∙◌, subst, arith, Bool, true, false, not, Less, Equal, Greater, cond}
-use Rattle.std.specs.Prelude.{◌&&◌, ◌||◌, ◌==◌, Option, Some, None, option_map, IsTrue, IsOk, nat_lt, slice_get, slice_set, slice_range, MatchOption, MatchResult, Result, Ok, Err}
-use Rattle.std.specs.Ordering.{is_eq, is_lt, ordering_reverse, eq_by_cmp}
-use Rattle.std.specs.List.{insert, remove, splice}
-use Rattle.std.specs.FinMap.Entries.{find, put, where_key, is_sorted, below_all}
-use Rattle.std.specs.declared.cmp.Ordering.{Ordering}
+use Rattle.std.proofs.Common.{◌≡◌, ◌≢◌, ◌-◌, ℕ, zero, suc, ◌+◌, ◌<◌, ◌≤◌, List, [], ◌∷◌, ◌++◌, length, get_or, set, map, take, drop, refl, ap, sym, ◌∙◌, subst, arith, Bool, true, false, not, Less, Equal, Greater}
+use Rattle.std.specs.Prelude.{◌&&◌, ◌==◌, Some, None, option_map, IsTrue, slice_range, MatchResult, Result, Ok, Err}
+use Rattle.std.specs.Ordering.{is_eq, is_lt, ordering_reverse}
+use Rattle.std.specs.List.{insert, remove}
+use Rattle.std.specs.FinMap.Entries.{put, is_sorted, below_all}
 use Rattle.std.proofs.lemmas.Cmp.{tied_itself}
 use Rattle.std.proofs.Math.Seq.{drop-nil}
 use Rattle.std.proofs.lemmas.Grind.{common_steps}
@@ -14,10 +13,10 @@ use Rattle.value_model.specs.declared.key.Key.TheVariants as key
 use Rattle.value_model.specs.declared.words.Kind.TheVariants as kind
 use Rattle.value_model.specs.Order.{key_cmp, key_total, key_exact}
 use Rattle.value_model.specs.Plain.{Plain, prim}
-use Rattle.value_model.specs.Search.{Past, IsPlace, left_true, right_true, less_from_test, turned}
+use Rattle.value_model.specs.Search.{Past, IsPlace, left_true, right_true, less_from_test}
 use Rattle.run_heap.specs.declared.value.Rv.{Rv}
 use Rattle.run_heap.specs.declared.value.Rv.TheVariants.{Undefined, Prim, Obj, Frozen}
-use Rattle.run_heap.specs.Operations.{Rows, item, is_undefined, without, position, set_element, spliced, emptied}
+use Rattle.run_heap.specs.Operations.{Rows, item, without, position, set_element, spliced}
 use Rattle.run_heap.specs.Sound.{all_stand}
 use Rattle.run_heap.specs.Values.{same, same_tables}
 
@@ -268,9 +267,9 @@ spliced_differs t from to vs a b =
     let whole : t ≡ take from t ++ (r ++ drop to t) = sym (split_range t from to a b) in
     elim (length r == length ys) as (λ x. (length r == length ys) ≡ x → same_tables t (take from t ++ (ys ++ drop to t)) ≡ same_tables r ys) [
       | true ↦ λ p. let l : length r ≡ length ys = grind (arith, p) in
-        ap (λ (u : Rows). same_tables u (take from t ++ (ys ++ drop to t))) whole ∙ same_front (take from t) (r ++ drop to t) (ys ++ drop to t) ∙ same_back r ys (drop to t) l
+          ap (λ (u : Rows). same_tables u (take from t ++ (ys ++ drop to t))) whole ∙ same_front (take from t) (r ++ drop to t) (ys ++ drop to t) ∙ same_back r ys (drop to t) l
       | false ↦ λ p. let l : length r ≢ length ys = grind (arith, p) in
-        other_length t (take from t ++ (ys ++ drop to t)) (λ q. l (range_length t r ys from to a b q)) ∙ sym (other_length r ys (λ q. l (sym q)))
+          other_length t (take from t ++ (ys ++ drop to t)) (λ q. l (range_length t r ys from to a b q)) ∙ sym (other_length r ys (λ q. l (sym q)))
     ] refl
 
 pub cleared_differs : (t : Rows) → not (length t == 0) ≡ not (same_tables t [])

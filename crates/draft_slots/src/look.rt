@@ -1,5 +1,5 @@
 //! Reading a container: an object's own content, or a node as the store holds it, of which nothing is copied.
-ghost use Rattle.std.specs.Prelude.{◌≡◌, ◌≢◌, ◌<◌, IfOk, IfSome, Some, List, length, slice_get};
+ghost use Rattle.std.specs.Prelude.{◌^◌, ◌≡◌, ◌≢◌, ◌<◌, IfOk, IfSome, Some, List, length, slice_get};
 ghost use Rattle.value_model.specs.declared.key.Key.TheVariants as key_model;
 ghost use Rattle.value_model.specs.declared.words.Kind.TheVariants as kind;
 ghost use Rattle.numbered.specs.Tree.{Tree};
@@ -11,10 +11,10 @@ ghost use Rattle.draft_slots.specs.Looks.{looked, IsLook, kind_in};
 ghost use Rattle.draft_slots.specs.Peeks.{IsKept};
 
 use crate::names::is_reserved;
-use crate::nodes::{node_position, node_same, node_value};
+use crate::nodes::{copy_key, node_position, node_same, node_value};
 use crate::table::position;
 use node_store::{Cell, Kind, NodeId, Store};
-use run_heap::{Content, DraftFault, Given, Rv};
+use run_heap::{Content, DraftFault, Given, Rv, Table};
 use std::alloc::{AllocError, Global};
 use value_model::{Key, Safe, Text};
 
@@ -51,7 +51,8 @@ impl<'a> Look<'a> {
     /// How many entries it has.
     pub fn count(&self, store: &Store) -> usize
         requires { IsLook store.now self.now }
-        ensures { result ≡ length (rows_of (looked store.now self.now)) }
+        ensures value { result ≡ length (rows_of (looked store.now self.now)) }
+        ensures small { result < 2 ^ 63 }
     {
         match self {
             Look::Own(content) => content.table.as_slice().len(),
@@ -94,6 +95,32 @@ impl<'a> Look<'a> {
             Look::Own(content) => &content.table.as_slice()[i].0,
             Look::Node(id, _) => store.key(*id, i),
         }
+    }
+
+    /// A copy of the key of an entry, in a list null.
+    fn copy_key(&self, alloc: Global, store: &Store, i: usize) -> Result<Key, AllocError>
+        requires look { IsLook store.now self.now }
+        requires in_range { i < length (rows_of (looked store.now self.now)) }
+        ensures { IfOk result (λ k. slice_get (spec.keys_of (rows_of (looked store.now self.now))) i ≡ Some k) }
+    {
+        match self {
+            Look::Own(content) => own_key(alloc, content, i),
+            Look::Node(id, _) => copy_key(alloc, store, *id, i),
+        }
+    }
+
+    /// The keys as elements of a list.
+    pub fn keys(&self, alloc: Global, store: &Store) -> Result<Table, AllocError>
+        requires { IsLook store.now self.now }
+        ensures { IfOk result (λ t. t ≡ spec.listed (spec.keys_of (rows_of (looked store.now self.now)))) }
+    {
+        let count = self.count(store);
+        let mut out = Vec::with_capacity(alloc, count)?;
+        for i in 0..count {
+            let key = self.copy_key(alloc, store, i)?;
+            out.push((Key::Null, Rv::Prim(key)))?;
+        }
+        Ok(Table::from_vec(out))
     }
 
     /// The value of an entry as it is kept.
@@ -149,13 +176,7 @@ impl<'a> Look<'a> {
     }
 
     /// An object's value by a text.
-    fn member(
-        &self,
-        alloc: Global,
-        store: &Store,
-        key: &Key,
-        text: &Text,
-    ) -> Result<Rv, DraftFault>
+    fn member(&self, alloc: Global, store: &Store, key: &Key, text: &Text) -> Result<Rv, DraftFault>
         requires look { IsLook store.now self.now }
         requires object { kind_in (looked store.now self.now) ≡ kind.Obj }
         requires text { key.now ≡ key_model.Text text.now }
@@ -186,6 +207,13 @@ impl<'a> Look<'a> {
             None => Ok(Rv::Undefined),
         }
     }
+}
+
+fn own_key(alloc: Global, content: &Content, i: usize) -> Result<Key, AllocError>
+    requires { i < length content.now.table }
+    ensures { IfOk result (λ k. slice_get (spec.keys_of content.now.table) i ≡ Some k) }
+{
+    content.table.as_slice()[i].0.copy(alloc)
 }
 
 fn own_value(alloc: Global, content: &Content, i: usize) -> Result<Rv, AllocError>

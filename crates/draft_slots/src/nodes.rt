@@ -61,7 +61,7 @@ fn is_key(value: &Rv, key: &Key) -> bool
 }
 
 /// The key of an entry, in a list null.
-fn copy_key(alloc: Global, store: &Store, id: NodeId, i: usize) -> Result<Key, AllocError>
+pub fn copy_key(alloc: Global, store: &Store, id: NodeId, i: usize) -> Result<Key, AllocError>
     requires store { IsStore store.now }
     requires number { IsNumber store.now id }
     requires in_range { i < length (cells_of (tree_at store.now id)) }

@@ -1,18 +1,15 @@
 -- What every heap of a run keeps.
-use Rattle.std.proofs.Common.{◌≡◌, ◌≢◌, ℕ, zero, suc, ◌+◌, ◌-◌, ◌<◌, ◌≤◌, List, [], ◌∷◌, ◌++◌, length, map, take, refl, ap, sym, ◌∙◌, subst, arith, Bool, true, false, not, Less, Equal, Greater}
-use Rattle.std.specs.Prelude.{◌&&◌, ◌||◌, ◌==◌, ◌^◌, nat_lt, if◌then◌else◌, Option, Some, None, option_map, IsTrue, slice_get, ⊤, cond, pos, negsuc, Result, Ok, Err}
+use Rattle.std.proofs.Common.{◌≡◌, ◌≢◌, ℕ, zero, suc, ◌+◌, ◌-◌, ◌<◌, ◌≤◌, List, [], ◌∷◌, length, refl, ap, sym, ◌∙◌, subst, arith, Bool, true, false, not, Less, Equal, Greater}
+use Rattle.std.specs.Prelude.{◌&&◌, ◌||◌, ◌==◌, ◌^◌, nat_lt, if◌then◌else◌, Option, Some, None, slice_get, ⊤, cond, pos, negsuc, Result, Ok, Err}
 use Rattle.std.specs.FinMap.Entries.{is_sorted, below_all, find}
 use Rattle.std.specs.Ordering.{is_eq, is_lt, eq_by_cmp}
-use Rattle.std.specs.declared.cmp.Ordering.{Ordering}
-use Rattle.std.proofs.lemmas.Cmp.{tied_itself}
 use Rattle.value_model.specs.declared.key.Key.{Key}
 use Rattle.value_model.specs.declared.key.Key.TheVariants as key
 use Rattle.value_model.specs.declared.words.Kind.{Kind}
 use Rattle.value_model.specs.declared.words.Kind.TheVariants as kind
-use Rattle.value_model.specs.declared.words.Limit.{Limit}
 use Rattle.value_model.specs.declared.words.Limit.TheVariants as limit
 use Rattle.value_model.specs.Limits.{is_long_key, is_long_text, is_reserved_text, has_long_key, any_long_key, has_reserved_key, any_reserved_key, value_limit, state_limit}
-use Rattle.value_model.specs.Order.{key_cmp, key_total, key_exact}
+use Rattle.value_model.specs.Order.{key_cmp, key_exact}
 use Rattle.value_model.specs.Places.{ascends_at}
 use Rattle.value_model.specs.Plain as plain_value
 use Rattle.value_model.specs.Plain.{Plain, Entries, list_of}
@@ -20,7 +17,6 @@ use Rattle.value_model.specs.Well.{well, all_fit}
 use Rattle.numbered.specs.Laws.{place_of, well_at, accepted_at, children_of}
 use Rattle.numbered.specs.Store.{IsNumber, IsStore, IsOf, AllOf, tree_at}
 use Rattle.numbered.specs.Tree.{Tree, Branches, prim, node, none, branch, plain, plains, containers, containers_in, place, place_in}
-use Rattle.run_heap.specs.declared.value.ObjRef.{ObjRef}
 use Rattle.run_heap.specs.declared.value.Rv.{Rv}
 use Rattle.run_heap.specs.declared.value.Rv.TheVariants.{Undefined, Prim, Obj, Frozen}
 use Rattle.run_heap.specs.declared.value.Given.{Given}
@@ -28,16 +24,16 @@ use Rattle.run_heap.specs.declared.value.Given.TheVariants as given
 use Rattle.run_heap.specs.declared.content.Content.{Content}
 use Rattle.run_heap.specs.declared.fault.DraftFault.{DraftFault}
 use Rattle.run_heap.specs.declared.fault.DraftFault.TheVariants as fault
-use Rattle.run_heap.specs.Heap.{Heap, drafts, after, given_value, given_table, given_content, copied, opening, opened, shown, is_foreign, rewritten, update, with_objects}
+use Rattle.run_heap.specs.Heap.{Heap, after, given_table, given_content, copied, opening, opened, shown, is_foreign, rewritten, update, with_objects}
 use Rattle.run_heap.specs.Operations.{Rows, source_in, or_undefined, value_at, entry, then_read, read, get}
-use Rattle.run_heap.specs.Sound.{IsStored, Fits, Owned, RowsStored, may_stand, all_stand, ascends, IsTable, IsContent, IsOpenedAs, HasSource, IsSound, Keeps, Grows}
+use Rattle.run_heap.specs.Sound.{IsStored, Fits, Owned, RowsStored, all_stand, ascends, IsTable, IsContent, IsOpenedAs, HasSource, IsSound, Keeps, Grows}
 use Rattle.run_heap.specs.Values.{same, same_tables}
 
-left_true : (a b : Bool) → (a && b) ≡ true → a ≡ true
+pub left_true : (a b : Bool) → (a && b) ≡ true → a ≡ true
 left_true true b h = refl
 left_true false b h = h
 
-right_true : (a b : Bool) → (a && b) ≡ true → b ≡ true
+pub right_true : (a b : Bool) → (a && b) ≡ true → b ≡ true
 right_true true b h = h
 right_true false b h = absurd (cc)
 
@@ -282,12 +278,16 @@ some_inside h n c s o = elim (nat_lt n h.next) as (λ b. nat_lt n h.next ≡ b �
 
 kept_mark : (t : Rows) (c : Content) (b : Option Content) → IsOpenedAs (Some c) b → IsOpenedAs (Some (rewritten t c)) b
 kept_mark t c None h = h
-kept_mark t c (Some b) h = (h.0, h.1, λ w.
-  let old : c.written ≡ false = left_false _ _ w in
-  let e : c.table ≡ t = same_tables_exact c.table t (not_false _ (right_false _ _ w)) in
-  let same_mark : (c.written || not (same_tables c.table t)) ≡ c.written = w ∙ sym old in
-  let back : rewritten t c ≡ c = λ i. record { kind = c.kind; table = sym e i; source = c.source; written = same_mark i } in
-  back ∙ h.2 old)
+kept_mark t c (Some b) h = (
+  h.0,
+  h.1,
+  λ w.
+      let old : c.written ≡ false = left_false _ _ w in
+      let e : c.table ≡ t = same_tables_exact c.table t (not_false _ (right_false _ _ w)) in
+      let same_mark : (c.written || not (same_tables c.table t)) ≡ c.written = w ∙ sym old in
+      let back : rewritten t c ≡ c = λ i. record { kind = c.kind; table = sym e i; source = c.source; written = same_mark i } in
+      back ∙ h.2 old,
+)
 
 update_on : (h : Heap) (n : ℕ) (c : Content) → Onwards h (update n c h)
 update_on h n c = record { scope = refl; states = refl; more = omega arith }
@@ -306,9 +306,9 @@ update_sound h n t c s o tab =
       copied = s.copied;
       full = λ m l. by_name (λ (x : Option Content). x ≢ None) h n m d (λ q. absurd (cc)) (s.full m l);
       fresh = λ m l.
-      let inside = some_inside h n c s o in
-      let other : (m == n) ≡ false = grind (arith, inside, l) in
-      rw other (s.fresh m l);
+          let inside = some_inside h n c s o in
+          let other : (m == n) ≡ false = grind (arith, inside, l) in
+          rw other (s.fresh m l);
       tables = λ m. by_name (IsContent g) h n m d (table_on h g c.kind t (update_on h n d) tab) (content_on h g (h.object m) (update_on h n d) (s.tables m));
       drafts = λ m l. elim (m == n) as (λ b. (m == n) ≡ b → IsOpenedAs (if b then Some d else h.object m) (opening h m)) [
         | true ↦ λ p. kept_mark t c (opening h m) (subst (λ (x : Option Content). IsOpenedAs x (opening h m)) (at_name h n m c o p) (s.drafts m l))
@@ -356,17 +356,17 @@ sources_in h [] i a = tt
 sources_in h (c ∷ cs) zero a = a.0.1
 sources_in h (c ∷ cs) (suc i) a = sources_in h cs i a.1
 
-get_some : (cs : List Content) (i : ℕ) → i < length cs → slice_get cs i ≢ None
+pub get_some : (cs : List Content) (i : ℕ) → i < length cs → slice_get cs i ≢ None
 get_some [] i l = absurd (omega arith)
 get_some (c ∷ cs) zero l = λ h. absurd (cc)
 get_some (c ∷ cs) (suc i) l = get_some cs i (omega arith)
 
-get_none : (cs : List Content) (i : ℕ) → length cs ≤ i → slice_get cs i ≡ None
+pub get_none : (cs : List Content) (i : ℕ) → length cs ≤ i → slice_get cs i ≡ None
 get_none [] i l = refl
 get_none (c ∷ cs) zero l = absurd (omega arith)
 get_none (c ∷ cs) (suc i) l = get_none cs i (omega arith)
 
-objects_on : (h : Heap) (cs : List Content) → Onwards h (with_objects cs h)
+pub objects_on : (h : Heap) (cs : List Content) → Onwards h (with_objects cs h)
 objects_on h cs = record { scope = refl; states = refl; more = omega arith }
 
 by_age : (P : Option Content → Type 0) (h : Heap) (cs : List Content) (n : ℕ) → (n < h.next → P (h.object n)) → (h.next ≤ n → P (slice_get cs (n - h.next))) → P (if nat_lt n h.next then h.object n else slice_get cs (n - h.next))

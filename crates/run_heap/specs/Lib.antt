@@ -5,4 +5,5 @@ pub mod Laws
 pub mod Operations
 pub mod Places
 pub mod Sound
+pub mod Tables
 pub mod Values

@@ -1,4 +1,4 @@
-use Rattle.std.proofs.Common.{◌≡◌, ◌++◌, drop, vec_len}
+use Rattle.std.proofs.Common.{◌≡◌, ◌++◌, drop}
 use Rattle.numbered.specs.Store.{tree_at}
 use Rattle.draft_slots.specs.Nodes.{node_table}
 use Rattle.draft_slots.proofs.nodes.node_entries.Given as goal

@@ -29,8 +29,8 @@ returns-in-Node c =
     let t = tree_at ts c.args.id in
     let g = after c.args.given (before c.args.i (branches_of t)) in
     let there =
-        value_given ts c.args.given c.args.i (branches_of t) c.cell.result.now c.requires.store c.cell.ensures.below c.cell.ensures.child
-        ∙ ap (λ (x : Cell). let o : Option Rv = Some (given_cell g x) in o) c.in-Node.is
-        ∙ ap (λ (n : ℕ). let o : Option Rv = Some (given_node (after c.args.given n) c.in-Node.child) in o) (sym c.before-in-Node.ensures)
-        ∙ ap (λ (v : Rv). let o : Option Rv = Some v in o) (sym c.give.ensures) in
+    value_given ts c.args.given c.args.i (branches_of t) c.cell.result.now c.requires.store c.cell.ensures.below c.cell.ensures.child
+    ∙ ap (λ (x : Cell). let o : Option Rv = Some (given_cell g x) in o) c.in-Node.is
+    ∙ ap (λ (n : ℕ). let o : Option Rv = Some (given_node (after c.args.given n) c.in-Node.child) in o) (sym c.before-in-Node.ensures)
+    ∙ ap (λ (v : Rv). let o : Option Rv = Some v in o) (sym c.give.ensures) in
     some_is (value_at c.args.i (node_table c.args.given t)) c.give.result (λ v. c.same.result ≡ same v c.args.item.now) there c.same.ensures

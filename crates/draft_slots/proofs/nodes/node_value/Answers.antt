@@ -1,4 +1,4 @@
-use Rattle.std.proofs.Common.{◌≡◌, ◌∙◌, sym, ap, ℕ}
+use Rattle.std.proofs.Common.{◌∙◌, sym, ap, ℕ}
 use Rattle.std.specs.Prelude.{Some, Option}
 use Rattle.value_model.specs.declared.key.Key.{Key}
 use Rattle.numbered.specs.Store.{tree_at}

@@ -1,4 +1,4 @@
-use Rattle.std.proofs.Common.{◌≡◌, ◌≢◌, ap, sym, ◌∙◌, length, arith}
+use Rattle.std.proofs.Common.{◌≡◌, ap, ◌∙◌, length, arith}
 use Rattle.draft_slots.specs.Tables.{appended, element_key}
 use Rattle.draft_slots.proofs.table.set_element.Goals as goal
 

@@ -1,4 +1,3 @@
-use Rattle.std.proofs.Common.{◌≡◌, ◌∙◌, ap, Ok, Err}
 use Rattle.draft_slots.specs.Tables.{set_leaves, insert_leaves, place_key}
 use Rattle.draft_slots.proofs.table.set_key.Goals as goal
 

@@ -1,10 +1,10 @@
-use Rattle.std.proofs.Common.{◌≡◌, ◌∙◌, sym, ap, subst, map, not, List}
+use Rattle.std.proofs.Common.{◌≡◌, ◌∙◌, sym, ap, map, not}
 use Rattle.std.proofs.lemmas.Iterator.{items_from_drains}
 use Rattle.std.proofs.lemmas.Iterator.Adapters.{YieldsList-from_vec}
 use Rattle.std.proofs.lemmas.List.{map-id}
 use Rattle.std.specs.Prelude.{slice_range}
 use Rattle.std.specs.List.{splice}
-use Rattle.run_heap.specs.Operations.{item, spliced}
+use Rattle.run_heap.specs.Operations.{item}
 use Rattle.run_heap.specs.Operations.{Rows}
 use Rattle.run_heap.specs.Values.{same_tables}
 use Rattle.draft_slots.specs.Tables.{spliced_differs}

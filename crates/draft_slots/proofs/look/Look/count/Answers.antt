@@ -1,7 +1,13 @@
-use Rattle.std.proofs.Common.{◌≡◌, ◌∙◌, sym}
+use Rattle.std.proofs.Common.{◌∙◌, sym, arith}
 use Rattle.numbered.specs.Store.{tree_at}
-use Rattle.draft_slots.specs.LookFacts.{count_node}
+use Rattle.draft_slots.specs.LookFacts.{count_node, few_cells}
 use Rattle.draft_slots.proofs.look.Look.count.Goals as goal
 
-pub returns-in-Node : goal.returns-in-Node
-returns-in-Node c = rw c.in-Node.is (c.count.ensures ∙ sym (count_node c.in-Node.field-1 (tree_at c.args.store.now c.in-Node.id)))
+pub returns-in-Node-clause-value : goal.returns-in-Node-clause-value
+returns-in-Node-clause-value c = rw c.in-Node.is (c.count.ensures ∙ sym (count_node c.in-Node.field-1 (tree_at c.args.store.now c.in-Node.id)))
+
+pub returns-in-Node-clause-small : goal.returns-in-Node-clause-small
+returns-in-Node-clause-small c =
+    let look = rw c.in-Node.is at c.requires in
+    let few = few_cells c.args.store.now c.in-Node.id look.0 look.1 in
+    omega (arith, few, c.count.ensures)

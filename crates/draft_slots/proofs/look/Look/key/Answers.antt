@@ -1,13 +1,11 @@
-use Rattle.std.proofs.Common.{◌≡◌, ◌∙◌, ◌<◌, ℕ, sym, ap, subst, List, get_or}
+use Rattle.std.proofs.Common.{◌∙◌, ◌<◌, ℕ, sym, ap, subst, List, get_or}
 use Rattle.std.specs.Prelude.{slice_get, Some, Option}
 use Rattle.value_model.specs.declared.key.Key.{Key}
-use Rattle.run_heap.specs.declared.value.Rv.{Rv}
 use Rattle.numbered.specs.Store.{tree_at}
-use Rattle.node_store.specs.Nodes.{kind_of}
 use Rattle.run_heap.specs.Operations as spec
 use Rattle.run_heap.specs.Operations.{Rows}
 use Rattle.draft_slots.specs.LookFacts.{count_node, kind_node, rows_node}
-use Rattle.draft_slots.specs.Nodes.{keyed_keys, key_in, node_table}
+use Rattle.draft_slots.specs.Nodes.{keyed_keys, key_in}
 use Rattle.draft_slots.proofs.look.Look.key.Goals as goal
 
 pub key-requires-clause-in_range : goal.key-requires-clause-in_range

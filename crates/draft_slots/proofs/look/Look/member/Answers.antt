@@ -1,4 +1,4 @@
-use Rattle.std.proofs.Common.{◌≡◌, ◌∙◌, sym}
+use Rattle.std.proofs.Common.{sym}
 use Rattle.std.specs.Prelude.{Some, None}
 use Rattle.run_heap.specs.Operations.{rows_of}
 use Rattle.draft_slots.specs.Looks.{looked}

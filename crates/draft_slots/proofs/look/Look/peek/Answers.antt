@@ -1,6 +1,5 @@
-use Rattle.std.proofs.Common.{◌≡◌, ◌∙◌, ◌<◌, ℕ, sym, ap, subst, get_or}
+use Rattle.std.proofs.Common.{◌∙◌, ◌<◌, ℕ, sym, ap, subst, get_or}
 use Rattle.std.specs.Prelude.{Some, Option}
-use Rattle.value_model.specs.declared.key.Key.{Key}
 use Rattle.run_heap.specs.declared.value.Rv.{Rv}
 use Rattle.numbered.specs.Store.{tree_at}
 use Rattle.numbered.specs.Tree.{branches_of}

@@ -1,6 +1,4 @@
-use Rattle.std.proofs.Common.{◌≡◌, ◌∙◌, ◌<◌, ℕ, sym, ap, subst, get_or}
-use Rattle.value_model.specs.declared.key.Key.{Key}
-use Rattle.run_heap.specs.declared.value.Rv.{Rv}
+use Rattle.std.proofs.Common.{◌≡◌, ◌∙◌, ◌<◌, ℕ, ap, subst, get_or}
 use Rattle.numbered.specs.Store.{tree_at}
 use Rattle.run_heap.specs.Operations.{Rows, value_at}
 use Rattle.run_heap.specs.Values.{same}

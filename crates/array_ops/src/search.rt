@@ -1,0 +1,68 @@
+//! Calls that look for a value in a list.
+ghost use Rattle.std.specs.Prelude.{◌≡◌, ◌<◌, ◌^◌, [], ◌∷◌, length, IfSome};
+ghost use Rattle.std.specs.List.{position};
+ghost use Rattle.run_heap.specs.Answers.{Answers};
+ghost use Rattle.run_heap.specs.Operations.{table_of};
+ghost use Rattle.run_heap.specs.Sound.{IsContainer, Owned};
+ghost use Rattle.run_heap.specs.Values.{same};
+ghost use Rattle.draft_core.specs.Seen.{heap, Stands};
+ghost use Rattle.list_rows.specs.Calls as spec;
+ghost use Rattle.list_rows.specs.Guards.{elements_of};
+
+use crate::guards::readable;
+use draft_core::{DraftFault, Rv, Scope, Store};
+use std::alloc::Global;
+use std::slice;
+
+/// The index of the first element that is the same as the item, or -1 where there is none. `TypeMismatch` for another operand.
+pub fn index_of(
+    _alloc: Global,
+    scope: &mut Scope,
+    store: &Store,
+    of: &Rv,
+    item: &Rv,
+) -> Result<i64, DraftFault>
+    requires stands { Stands store.now scope.old }
+    requires owned { Owned (heap store.now scope.old) of.now }
+    ensures answer { Answers result (spec.index_of item.now (heap store.now scope.old) of.now) }
+    ensures same { scope.new ≡ scope.old }
+{
+    let len = readable(scope, store, of, slice::from_ref(item))?;
+    match find(scope, store, of, item, len) {
+        Some(i) => Ok(i as i64),
+        None => Ok(-1),
+    }
+}
+
+/// Whether an element is the same as the item. `TypeMismatch` for another operand.
+pub fn includes(
+    _alloc: Global,
+    scope: &mut Scope,
+    store: &Store,
+    of: &Rv,
+    item: &Rv,
+) -> Result<bool, DraftFault>
+    requires stands { Stands store.now scope.old }
+    requires owned { Owned (heap store.now scope.old) of.now }
+    ensures answer { Answers result (spec.includes item.now (heap store.now scope.old) of.now) }
+    ensures same { scope.new ≡ scope.old }
+{
+    let len = readable(scope, store, of, slice::from_ref(item))?;
+    Ok(find(scope, store, of, item, len).is_some())
+}
+
+/// The index of the first of a list's elements that is the same as the item.
+fn find(scope: &Scope, store: &Store, of: &Rv, item: &Rv, len: usize) -> Option<usize>
+    requires stands { Stands store.now scope.now }
+    requires container { IsContainer (heap store.now scope.now) of.now }
+    requires long { len ≡ length (table_of (heap store.now scope.now) of.now) }
+    ensures index { result ≡ position (λ x. same x item.now) (elements_of (heap store.now scope.now) of.now) }
+    ensures below { IfSome result (λ i. i < len) }
+{
+    for i in 0..len {
+        if scope.same_at(store, of, i, item) {
+            return Some(i);
+        }
+    }
+    None
+}

@@ -1,0 +1,32 @@
+-- The objects that have a table of their own.
+use Rattle.std.specs.Prelude.{◌≡◌, ◌≢◌, ℕ, ◌-◌, ◌<◌, Option, Some, None, nat_lt, if◌then◌else◌, slice_get}
+use Rattle.std.specs.Vec.{vec_capacity, vec_len}
+use Rattle.std.specs.BTreeMap.{get}
+use Rattle.std.specs.Ordering.{nat_cmp}
+use Rattle.run_heap.specs.declared.content.Content.{Content}
+use Rattle.draft_slots.specs.declared.change.Change.{Change}
+use Rattle.draft_slots.specs.Looks.{MayChange}
+use Rattle.draft_core.specs.declared.scope.Scope.{Scope}
+
+-- the content that is kept at a name
+abbrev pub own_content : Scope → ℕ → Option Content
+own_content s n = if nat_lt n s.drafts then get nat_cmp s.touched n else slice_get s.later.items (n - s.drafts)
+
+abbrev pub HasTable : Scope → ℕ → Type 0
+HasTable s n = own_content s n ≢ None
+
+abbrev pub MayRewrite : Change → Option Content → Type 0
+MayRewrite change None = ⊥
+MayRewrite change (Some c) = MayChange change c.table
+
+-- the fields that no write changes
+pub record Beside (s t : Scope) : Type 0 where
+  pub number : t.number ≡ s.number
+  pub root : t.root ≡ s.root
+  pub len : t.len ≡ s.len
+  pub drafts : t.drafts ≡ s.drafts
+
+-- the later objects have as much room as before
+pub record SameRoom (s t : Scope) : Type 0 where
+  pub len : vec_len t.later ≡ vec_len s.later
+  pub capacity : vec_capacity t.later ≡ vec_capacity s.later

@@ -1,0 +1,4 @@
+//! What the calls on lists answer and leave, over the objects of a run: definitions alone.
+//!
+//! The definitions stand in `specs/`: `Calls` (each call as a function on a list's elements), `Examples` (worked rows).
+#![tactic(auto)]
