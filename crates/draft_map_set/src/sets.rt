@@ -1,0 +1,99 @@
+//! The calls on Sets.
+ghost use Rattle.std.specs.Prelude.{◌≡◌, ◌≤◌, ◌+◌, List};
+ghost use Rattle.numbered.specs.Tree.{Tree};
+ghost use Rattle.run_heap.specs.Answers.{Does, Makes};
+ghost use Rattle.run_heap.specs.Heap.{next_object};
+ghost use Rattle.run_heap.specs.Sound.{Owned, Grows};
+ghost use Rattle.map_set_meaning.specs.MapSet as meaning;
+ghost use Rattle.draft_core.specs.Seen.{heap, Stands};
+ghost use Rattle.draft_core.specs.Writes.{slots};
+
+use crate::checks::{Takes, check_adding};
+use crate::entries::{clear, delete, has_by};
+use draft_core::{DraftFault, Kind, Rv, Scope, Store};
+use std::alloc::{AllocError, Global};
+
+/// Adds a member to a Set; where it is there already nothing changes. `TypeMismatch` for what isn't a Set, `Frozen` for a frozen
+/// one, `KeyTooLong` for a text of more than 1,024 bytes, `BadKey` for a member that isn't a primitive. After a refusal all is as
+/// before.
+pub fn set_add(
+    alloc: Global,
+    scope: &mut Scope,
+    store: &Store,
+    of: &Rv,
+    member: &Rv,
+) -> Result<(), DraftFault>
+    requires stands { Stands store.now scope.old }
+    requires owned { Owned (heap store.now scope.old) of.now }
+    ensures done { Does result (heap store.now scope.old) (heap store.now scope.new) (meaning.set_add member.now (heap store.now scope.old) of.now) }
+    ensures stands { Stands store.now scope.new }
+    ensures grows { Grows (heap store.now scope.old) (heap store.now scope.new) }
+    ensures tables { slots scope.new ≤ slots scope.old + 1 }
+{
+    check_adding(scope, store, of, member)?;
+    match member {
+        Rv::Prim(key) => {
+            let value = Rv::Prim(key.copy(alloc)?);
+            Ok(scope.set_key(alloc, store, of, key, Some(value))?)
+        }
+        _ => Err(DraftFault::BadKey),
+    }
+}
+
+/// Whether a member is in a Set. `TypeMismatch` for what isn't a Set, `BadKey` for a member that isn't a primitive.
+pub fn set_has(
+    _alloc: Global,
+    scope: &mut Scope,
+    store: &Store,
+    of: &Rv,
+    member: &Rv,
+) -> Result<bool, DraftFault>
+    requires stands { Stands store.now scope.old }
+    requires owned { Owned (heap store.now scope.old) of.now }
+    ensures answer { result ≡ meaning.set_has member.now (heap store.now scope.old) of.now }
+    ensures same { scope.new ≡ scope.old }
+{
+    has_by(scope, store, of, member, Takes::Sets)
+}
+
+/// Removes a member from a Set, and answers whether it was there; where it was absent nothing changes. `TypeMismatch` for what
+/// isn't a Set, `Frozen` for a frozen one, `BadKey` for a member that isn't a primitive. After a refusal all is as before.
+pub fn set_delete(
+    alloc: Global,
+    scope: &mut Scope,
+    store: &Store,
+    of: &Rv,
+    member: &Rv,
+) -> Result<bool, DraftFault>
+    requires stands { Stands store.now scope.old }
+    requires owned { Owned (heap store.now scope.old) of.now }
+    ensures done { Does result (heap store.now scope.old) (heap store.now scope.new) (meaning.set_delete member.now (heap store.now scope.old) of.now) }
+    ensures stands { Stands store.now scope.new }
+    ensures grows { Grows (heap store.now scope.old) (heap store.now scope.new) }
+    ensures tables { slots scope.new ≤ slots scope.old + 1 }
+{
+    delete(alloc, scope, store, of, member, Takes::Sets)
+}
+
+/// Removes every member of a Set. `TypeMismatch` for what isn't a Set, `Frozen` for a frozen one, also where it is empty. After a
+/// refusal all is as before.
+pub fn set_clear(alloc: Global, scope: &mut Scope, store: &Store, of: &Rv) -> Result<(), DraftFault>
+    requires stands { Stands store.now scope.old }
+    requires owned { Owned (heap store.now scope.old) of.now }
+    ensures done { Does result (heap store.now scope.old) (heap store.now scope.new) (meaning.set_clear (heap store.now scope.old) of.now) }
+    ensures stands { Stands store.now scope.new }
+    ensures grows { Grows (heap store.now scope.old) (heap store.now scope.new) }
+    ensures tables { slots scope.new ≤ slots scope.old + 1 }
+{
+    clear(alloc, scope, store, of, Takes::Sets)
+}
+
+/// A fresh empty Set. After want of memory all is as before.
+pub fn new_set(alloc: Global, scope: &mut Scope) -> Result<Rv, AllocError>
+    ensures done { (ts : List Tree) → Stands ts scope.old → Makes result (heap ts scope.old) (heap ts scope.new) (meaning.new_set (heap ts scope.old)) (next_object (heap ts scope.old)) }
+    ensures stands { (ts : List Tree) → Stands ts scope.old → Stands ts scope.new }
+    ensures grows { (ts : List Tree) → Stands ts scope.old → Grows (heap ts scope.old) (heap ts scope.new) }
+    ensures tables { slots scope.new ≤ slots scope.old + 1 }
+{
+    scope.new_of(alloc, Kind::Set)
+}
