@@ -1,0 +1,59 @@
+//! How tokens are read as a program.
+
+ghost use Rattle.std.specs.Prelude.{◌≡◌};
+ghost use Rattle.script_tree.specs.View.{program_of};
+ghost use Rattle.script_grammar.specs.Sources.{Spells, offset_of};
+ghost use Rattle.js_parse.specs.Parsing.{Parses};
+
+use crate::fault::ParseFault;
+use crate::program::Program;
+use js_lex::Tokens;
+use js_names::{NameFault, resolve};
+use js_syntax::{SyntaxFault, read_program};
+use script_text::Token;
+use script_tree::Reducer;
+use sqlite_items::Items;
+use std::alloc::Global;
+
+/// The program that the tokens of this source are, or the first fault with its offset in bytes: `TooNested` where a token
+/// opens more than 64 levels, and `Unexpected` at the first token with which they begin no program, the earlier of the
+/// two; and otherwise the first fault of a name.
+pub fn parse(alloc: Global, source: &[u8], tokens: &Tokens) -> Result<Program, ParseFault>
+    ensures { Parses source.now tokens.now result }
+{
+    match read_program(alloc, source, tokens) {
+        Ok(reducers) => named(alloc, source, tokens, reducers),
+        Err(SyntaxFault::Unexpected(at)) => Err(ParseFault::Unexpected(at)),
+        Err(SyntaxFault::TooNested(at)) => Err(ParseFault::TooNested(at)),
+        Err(SyntaxFault::Memory) => Err(ParseFault::Memory),
+    }
+}
+
+/// The program of these reducers.
+fn named(
+    alloc: Global,
+    source: &[u8],
+    tokens: &Tokens,
+    reducers: Items<Reducer>,
+) -> Result<Program, ParseFault>
+    ensures { Spells source.now tokens.now (program_of reducers) → Parses source.now tokens.now result }
+{
+    match resolve(alloc, reducers.as_slice()) {
+        Ok(names) => Ok(Program { reducers, names }),
+        Err(NameFault::Wrong(cause, token)) => {
+            let at = offset_of(source, tokens.as_slice(), token);
+            Err(ParseFault::of_name(cause, at))
+        }
+        Err(NameFault::Memory) => Err(ParseFault::Memory),
+    }
+}
+
+/// Where the token of this number begins; behind the last one, the length of the source.
+fn offset_of(source: &[u8], tokens: &[Token], number: usize) -> usize
+    ensures { result ≡ offset_of source.now tokens.now number }
+{
+    match tokens.get(number) {
+        Some(token) => token.start,
+        None => source.len(),
+    }
+}
