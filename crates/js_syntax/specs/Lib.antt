@@ -1,0 +1,4 @@
+pub mod Lists
+pub mod Nests
+pub mod Next
+pub mod Reading
