@@ -130,6 +130,9 @@ unfolding signed
 unary_post d ts h = rw (unary_seen ts None (sym h)) refl
 
 -- ---- chains
+pub chained_none : (k : ℕ) (a : Ex) (ls : List (Sign × Expr)) → ls ≡ [] → chained k a (links_before ls NoLinks) ≡ a
+chained_none k a ls h = rw h refl
+
 pub chain_none : (d k : ℕ) (ts : Toks) → k ≡ 0 → chain (below d) k ts ≡ unary (below d) ts
 unfolding chain
 chain_none d zero ts e = refl
@@ -140,9 +143,9 @@ unfolding chain links_at
 chain_some d zero ts e = absurd (e refl)
 chain_some d (suc k) ts e = let same : k ≡ suc k - 1 = omega arith in ap (λ (j : ℕ). and_then (chain (below d) j ts) (λ a. links_at d j >>= λ ls. pure (chained j a ls))) same
 
-pub chained_is : (k : ℕ) (a : Ex) (ls : List (Sign × Expr)) → chained k a (links_before ls NoLinks) ≡ chain_of k a (map (λ (l : Sign × Expr). (l.0, view l.1)) ls)
-chained_is k a [] = refl
-chained_is k a (l ∷ ls) = ap (Rattle.script_grammar.specs.Trees.Chain k a l.0 (view l.1)) (links_same ls)
+pub chained_is : (k : ℕ) (a : Ex) (ls : List (Sign × Expr)) → (ls ≡ [] → ⊥) → chained k a (links_before ls NoLinks) ≡ chain_of k a (map (λ (l : Sign × Expr). (l.0, view l.1)) ls)
+chained_is k a [] h = absurd (h refl)
+chained_is k a (l ∷ ls) h = ap (Rattle.script_grammar.specs.Trees.Chain k a l.0 (view l.1)) (links_same ls)
   where
     links_same : (ls : List (Sign × Expr)) → links_before ls NoLinks ≡ links_of (map (λ (l : Sign × Expr). (l.0, view l.1)) ls)
     links_same [] = refl
@@ -200,9 +203,12 @@ suffix_index d ts e h = rw h (within (fixed OpenSquare) index d ts e)
 pub suffix_dot : (d : ℕ) (ts : Toks) → sees OpenSquare (first ts) ≡ false → suffix (below d) ts ≡ dot ts
 suffix_dot d ts h = rw h refl
 
-pub member_is : (e : Ex) (ss : List (Access × List Expr)) → member e (suffixes_before ss NoSuffixes) ≡ member_of e (map suffix_view ss)
-member_is e [] = refl
-member_is e (s ∷ ss) = ap (Member e (suffix_of (suffix_view s))) (go ss)
+pub member_none : (e : Ex) (ss : List (Access × List Expr)) → ss ≡ [] → member e (suffixes_before ss NoSuffixes) ≡ e
+member_none e ss h = rw h refl
+
+pub member_is : (e : Ex) (ss : List (Access × List Expr)) → (ss ≡ [] → ⊥) → member e (suffixes_before ss NoSuffixes) ≡ member_of e (map suffix_view ss)
+member_is e [] h = absurd (h refl)
+member_is e (s ∷ ss) h = ap (Member e (suffix_of (suffix_view s))) (go ss)
   where
     go : (ss : List (Access × List Expr)) → suffixes_before ss NoSuffixes ≡ suffixes_of (map suffix_view ss)
     go [] = refl

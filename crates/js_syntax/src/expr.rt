@@ -75,7 +75,7 @@ impl<F: Fn(Global, Source<'_>, usize, usize, bool) -> Result<(Expr, usize), Stop
 
     /// The chains of the operators of the first levels.
     #[cycle(chains)]
-    #[tactic(auto, using(crate::proofs::Rules::chain_none, crate::proofs::Rules::chain_some, crate::proofs::Rules::chained_is, script_tree::proofs::Views::view_chain))]
+    #[tactic(auto, using(crate::proofs::Rules::chain_none, crate::proofs::Rules::chain_some, crate::proofs::Rules::chained_is, crate::proofs::Rules::chained_none, script_tree::proofs::Views::view_chain))]
     fn chain(&self, at: usize, level: usize) -> Result<(Expr, usize), Stop>
         requires level { level ≤ 6 }
         requires nests { Nests self.now.depth (F.pre self.now.read) (F.post self.now.read) }
@@ -148,7 +148,7 @@ impl<F: Fn(Global, Source<'_>, usize, usize, bool) -> Result<(Expr, usize), Stop
     }
 
     /// An atom with its members.
-    #[tactic(auto, using(crate::proofs::Rules::member_is, script_tree::proofs::Views::view_member))]
+    #[tactic(auto, using(crate::proofs::Rules::member_is, crate::proofs::Rules::member_none, script_tree::proofs::Views::view_member))]
     pub(crate) fn post(&self, at: usize) -> Result<(Expr, usize), Stop>
         requires nests { Nests self.now.depth (F.pre self.now.read) (F.post self.now.read) }
         ensures is { Reads view (post_rule (below self.now.depth)) self.now.source.bytes.now self.now.source.tokens.now at result }
