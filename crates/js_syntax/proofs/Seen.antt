@@ -409,3 +409,35 @@ literal_no_word bytes tokens at w h k = let f = by_kind bytes at (drop at tokens
     go : (o : Option Lit) → made lit_of (first (toks bytes tokens at)) ≡ o → None ≡ lit_ex o → literals (toks bytes tokens at) ≡ Err (Unexpected, toks bytes tokens at)
     go None m k = lit_none (toks bytes tokens at) m
     go (Some l) m k = absurd cc
+
+-- ---- texts
+text_seen : (o : Option (List ℕ)) → text_of (as_text o) ≡ o
+text_seen None = refl
+text_seen (Some v) = refl
+
+pub text_here : (bytes : List ℕ) (tokens : List Token) (at : ℕ) (t : Token) → at < length tokens → Some kind.Text ≡ next_kind (drop at tokens) → text_next (toks bytes tokens at) ≡ text_value (bytes_of bytes (slice_index_or tokens at t))
+unfolding text_next
+text_here bytes tokens at t l h = let e : drop at tokens ≡ slice_index_or tokens at t ∷ drop (at + 1) tokens = rw (add-one, drop-cons tokens at t) refl in rw (toks_here bytes tokens at t l) (go (slice_index_or tokens at t).kind (rw e at h))
+  where
+    go : (c : Kind) → Some kind.Text ≡ Some c → text_of (seen_as (bytes_of bytes (slice_index_or tokens at t)) at c) ≡ text_value (bytes_of bytes (slice_index_or tokens at t))
+    go kind.Text h = text_seen (text_value (bytes_of bytes (slice_index_or tokens at t)))
+    go kind.Name h = absurd cc
+    go (kind.Reserved r) h = absurd cc
+    go (kind.Integer n) h = absurd cc
+    go (kind.Sign s) h = absurd cc
+
+no_text_kind : (bytes : List ℕ) (k : ℕ) (c : Kind) → (kind.Text ≡ c → ⊥) → text_of (seen_as bytes k c) ≡ None
+no_text_kind bytes k kind.Name h = refl
+no_text_kind bytes k (kind.Reserved r) h = refl
+no_text_kind bytes k (kind.Integer n) h = let P : Tok → Type 0 = λ t. text_of t ≡ None in integer_cases P n refl refl
+no_text_kind bytes k kind.Text h = absurd (h refl)
+no_text_kind bytes k (kind.Sign s) h = refl
+
+no_text_list : (bytes : List ℕ) (k : ℕ) (ts : List Token) → (Some kind.Text ≡ next_kind ts → ⊥) → made text_of (first (seen_from bytes k ts)) ≡ None
+unfolding seen_from
+no_text_list bytes k [] h = refl
+no_text_list bytes k (t ∷ ts) h = no_text_kind (bytes_of bytes t) k t.kind (λ e. h (ap Some e))
+
+pub text_elsewhere : (bytes : List ℕ) (tokens : List Token) (at : ℕ) → (Some kind.Text ≡ next_kind (drop at tokens) → ⊥) → text_next (toks bytes tokens at) ≡ None
+unfolding text_next
+text_elsewhere bytes tokens at h = no_text_list bytes at (drop at tokens) h

@@ -3,3 +3,4 @@
 
 mod expr;
 mod source;
+mod text;

@@ -12,6 +12,7 @@ ghost use Rattle.script_tree.specs.View.{name_pair, word_of as word_view, view, 
 ghost use Rattle.script_grammar.specs.Tokens.{Kept};
 ghost use Rattle.js_syntax.specs.Lists.{suffix_next, Forward};
 
+use crate::text::text_value;
 use script_text::{Kind, Reserved, Sign, Token};
 use script_tree::{Expr, Label, Name};
 use sqlite_items::Items;
@@ -239,13 +240,20 @@ impl Source<'_> {
     }
 
     /// The value of the text that comes next; `None` where none comes.
+    #[tactic(auto, using(crate::proofs::Seen::text_here, crate::proofs::Seen::text_elsewhere))]
     pub(crate) fn text(&self, alloc: Global, at: usize) -> Result<Option<Text>, Stop>
         ensures is { IfOk result (λ o. o ≡ text_next (toks self.now.bytes.now self.now.tokens.now at)) }
+        ensures within { IfOk result (λ o. IfSome o (λ _. at < length self.now.tokens.now)) }
         ensures next { IfOk result (λ o. IfSome o (λ _. at + 1 < 2 ^ 64)) }
         ensures memory { IfErr result (λ f. f ≡ stop.Memory) }
     {
-        let _ = (alloc, at);
-        Err(Stop::Memory)
+        match self.kind(at) {
+            Some(Kind::Text) => {
+                let value = text_value(alloc, self.spelling(&self.tokens[at]))?;
+                Ok(value)
+            }
+            _ => Ok(None),
+        }
     }
 
     /// A literal.
