@@ -10,8 +10,8 @@ use Rattle.script_tree.specs.declared.Label.{Label}
 use Rattle.script_tree.specs.declared.Access.{Access}
 use Rattle.script_tree.specs.View.{view, elems_of, props_of, suffix_of, prop_of}
 use Rattle.script_parser.specs.Steps.{Outcome, Parser, and_then, ◌>>=◌, pure}
-use Rattle.script_text.specs.declared.sign.Sign.TheVariants.{OpenBrace, CloseBrace}
-use Rattle.script_parser.specs.Parser.{expect, props, prop, link, links, chain, below}
+use Rattle.script_text.specs.declared.sign.Sign.TheVariants.{OpenBrace, CloseBrace, Colon}
+use Rattle.script_parser.specs.Parser.{expect, props, prop, link, links, chain, expr, below}
 use Rattle.script_parser.proofs.Accept.{under}
 use Rattle.std.specs.Prelude.{map}
 
@@ -97,3 +97,7 @@ links_at d k ts = links k (chain (below d) k) ts
 
 abbrev pub objected_at : ℕ → Parser Ex
 objected_at d = expect OpenBrace >>= λ _. props_at d >>= λ ps. expect CloseBrace >>= λ _. pure (Object ps)
+
+-- what stands behind a key
+abbrev pub valued_at : ℕ → Label → Parser Prop
+valued_at d key = expect Colon >>= λ _. expr (below d) >>= λ e. pure (prop_of (key, e))

@@ -1,13 +1,13 @@
 //! Expressions. Each rule takes the function that reads what stands one level down, so that each is proved by itself.
 
-ghost use Rattle.std.specs.Prelude.{◌≡◌, ◌<◌, ◌≤◌, ◌-◌, ◌+◌, ◌^◌, Some, false, IfOk};
+ghost use Rattle.std.specs.Prelude.{◌≡◌, ◌<◌, ◌≤◌, ◌-◌, ◌+◌, ◌^◌, Some, None, false, IfOk, IsTrue};
 ghost use Rattle.script_tree.specs.View.{view};
 ghost use Rattle.js_syntax.specs.Reading.{toks, Reads};
-ghost use Rattle.js_syntax.specs.Next.{linked};
+ghost use Rattle.js_syntax.specs.Next.{linked, made, text_next};
 ghost use Rattle.script_parser.specs.Steps.{first};
-ghost use Rattle.script_parser.specs.Tests.{sees};
+ghost use Rattle.script_parser.specs.Tests.{sees, name_of, is_some};
 ghost use Rattle.script_text.specs.declared.sign.Sign.TheVariants.{OpenRound, OpenSquare, OpenBrace};
-ghost use Rattle.js_syntax.specs.Lists.{Forward, links_view, suffixes_view, one_suffix, elems_view, props_view, one_prop, one_link, links_at, link_at, props_at, prop_at, objected_at};
+ghost use Rattle.js_syntax.specs.Lists.{Forward, links_view, suffixes_view, one_suffix, elems_view, props_view, one_prop, one_link, links_at, link_at, props_at, prop_at, objected_at, valued_at};
 ghost use Rattle.js_syntax.specs.Nests.{Nests, rule, branches_view, branches_rule};
 ghost use Rattle.script_grammar.specs.Trees.{Choice};
 ghost use Rattle.script_parser.specs.Parser.{below, expr as expr_rule, chain as chain_rule, unary as unary_rule, post as post_rule, suffixes as suffixes_rule, suffix as suffix_rule, index as index_rule, dot as dot_rule, atom as atom_rule, rounded, listed, elems as elems_rule};
@@ -350,14 +350,72 @@ impl<F: Fn(Global, Source<'_>, usize, usize, bool) -> Result<(Expr, usize), Stop
         Ok(((Items::from_vec(found), true), next))
     }
 
+    /// A member of an object literal.
+    #[tactic(auto, using(crate::proofs::Props::prop_text, crate::proofs::Rules::reads_same))]
     fn member(&self, at: usize) -> Result<((Label, Expr), usize), Stop>
         requires left { 0 < self.now.depth }
         requires nests { Nests self.now.depth (F.pre self.now.read) (F.post self.now.read) }
         ensures is { Reads one_prop (prop_at (self.now.depth - 1)) self.now.source.bytes.now self.now.source.tokens.now at result }
         ensures forward { Forward at result }
     {
-        let _ = at;
-        Err(Stop::Memory)
+        if self.source.is_name(at) {
+            let (member, at) = self.named_member(at)?;
+            return Ok((member, at));
+        }
+        match self.source.text(self.alloc, at)? {
+            Some(text) => {
+                let (member, at) = self.valued(at + 1, Label::Quoted(text))?;
+                Ok((member, at))
+            }
+            None => self.worded_member(at),
+        }
+    }
+
+    /// A member whose key is a name, or a name that stands alone.
+    #[tactic(auto, using(crate::proofs::Props::prop_named, crate::proofs::Props::prop_short, crate::proofs::Props::prop_no_name))]
+    fn named_member(&self, at: usize) -> Result<((Label, Expr), usize), Stop>
+        requires left { 0 < self.now.depth }
+        requires name { IsTrue (is_some (made name_of (first (toks self.now.source.bytes.now self.now.source.tokens.now at)))) }
+        requires nests { Nests self.now.depth (F.pre self.now.read) (F.post self.now.read) }
+        ensures is { Reads one_prop (prop_at (self.now.depth - 1)) self.now.source.bytes.now self.now.source.tokens.now at result }
+        ensures forward { Forward at result }
+    {
+        let (name, next) = self.source.name(self.alloc, at)?;
+        if self.source.sees(next, Sign::Colon) {
+            let (member, next) = self.valued(next, Label::Name(name))?;
+            Ok((member, next))
+        } else {
+            Ok(((Label::Short, Expr::Name(name)), next))
+        }
+    }
+
+    /// A member whose key is a word that is no name.
+    #[tactic(auto, using(crate::proofs::Props::prop_reserved, crate::proofs::Props::prop_none))]
+    fn worded_member(&self, at: usize) -> Result<((Label, Expr), usize), Stop>
+        requires left { 0 < self.now.depth }
+        requires name { is_some (made name_of (first (toks self.now.source.bytes.now self.now.source.tokens.now at))) ≡ false }
+        requires text { None ≡ text_next (toks self.now.source.bytes.now self.now.source.tokens.now at) }
+        requires nests { Nests self.now.depth (F.pre self.now.read) (F.post self.now.read) }
+        ensures is { Reads one_prop (prop_at (self.now.depth - 1)) self.now.source.bytes.now self.now.source.tokens.now at result }
+        ensures forward { Forward at result }
+    {
+        let Some(word) = self.source.reserved(at) else {
+            return Err(Stop::Unexpected(at));
+        };
+        let (member, at) = self.valued(at + 1, Label::Reserved(word))?;
+        Ok((member, at))
+    }
+
+    /// The value behind this key and a colon.
+    fn valued(&self, at: usize, key: Label) -> Result<((Label, Expr), usize), Stop>
+        requires left { 0 < self.now.depth }
+        requires nests { Nests self.now.depth (F.pre self.now.read) (F.post self.now.read) }
+        ensures is { Reads one_prop (valued_at (self.now.depth - 1) key) self.now.source.bytes.now self.now.source.tokens.now at result }
+        ensures forward { Forward at result }
+    {
+        let at = self.source.expect(at, Sign::Colon)?;
+        let (value, at) = self.inner(at, true)?;
+        Ok(((key, value), at))
     }
 }
 
