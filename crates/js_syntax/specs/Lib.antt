@@ -3,3 +3,4 @@ pub mod Nests
 pub mod Next
 pub mod Reading
 pub mod Values
+pub mod Statements

@@ -1,6 +1,7 @@
 -- What a syntax tree stands for: the derivation that it was read by.
 use Rattle.std.specs.Prelude.{ℕ, ℤ, pos, ◌+◌, Bool, true, false, List, [], ◌∷◌, Option, Some, None, map}
 use Rattle.script_text.specs.declared.sign.Sign.{Sign}
+use Rattle.script_text.specs.declared.sign.Sign.TheVariants.{Plus}
 use Rattle.script_grammar.specs.Trees.{Number, Quote, True, False, Null, Undefined, Word, Named, Reserve, Ex, Literal, Var, Round, ListOf, Object, Member, Unary, Chain, Choice, Elems, NoElems, LastElem, ThenElem, Prop, Keyed, Quoted, Short, Props, NoProps, LastProp, ThenProp, Suffix, Dot, Index, Suffixes, NoSuffixes, ThenSuffix, Links, NoLinks, ThenLink, Stmt as St, Block, Empty, IfThen, IfElse, Return, ReturnOf, Throw, ThrowError, Delete, Set, Do, Item, Const, Let, LetBe, Plain, Items, NoItems, ThenItem, Params, One, Two, Reducer as Re, Function, Program, NoReducers, ThenReducer}
 use Rattle.script_text.specs.Lexical.{largest}
 use Rattle.script_tree.specs.declared.Name.{Name}
@@ -64,7 +65,7 @@ suffixes_of [] = NoSuffixes
 suffixes_of (s ∷ ss) = ThenSuffix (suffix_of s) (suffixes_of ss)
 
 abbrev pub member_of : Ex → List (Access × List Ex) → Ex
-member_of e [] = no_ex
+member_of e [] = Member e (Dot no_word) NoSuffixes
 member_of e (s ∷ ss) = Member e (suffix_of s) (suffixes_of ss)
 
 abbrev pub links_of : List (Sign × Ex) → Links
@@ -72,7 +73,7 @@ links_of [] = NoLinks
 links_of (l ∷ ls) = ThenLink l.0 l.1 (links_of ls)
 
 abbrev pub chain_of : ℕ → Ex → List (Sign × Ex) → Ex
-chain_of k e [] = no_ex
+chain_of k e [] = Chain k e Plus no_ex NoLinks
 chain_of k e (l ∷ ls) = Chain k e l.0 l.1 (links_of ls)
 
 -- an integer of a source is not below 0
