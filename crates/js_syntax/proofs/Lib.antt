@@ -2,3 +2,4 @@ pub mod Rules
 pub mod Seen
 pub mod Values
 pub mod Props
+pub mod Else
