@@ -3,3 +3,4 @@ pub mod Seen
 pub mod Values
 pub mod Props
 pub mod Else
+pub mod Statements

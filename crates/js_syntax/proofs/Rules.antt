@@ -28,7 +28,7 @@ use Rattle.js_syntax.specs.Lists.{links_before, onto_links, suffix_view, one_suf
 use Rattle.js_syntax.proofs.Seen.{read_some, read_none, sign_read}
 
 -- the next token is this sign
-seen_sign : (s : Sign) (ts : Toks) → sees s (first ts) ≡ true → (x : Toks) × (ts ≡ Fixed s ∷ x)
+pub seen_sign : (s : Sign) (ts : Toks) → sees s (first ts) ≡ true → (x : Toks) × (ts ≡ Fixed s ∷ x)
 seen_sign s [] h = absurd cc
 seen_sign s (t ∷ ts) h = go (fixed s t) refl h
   where
@@ -36,18 +36,18 @@ seen_sign s (t ∷ ts) h = go (fixed s t) refl h
     go None e h = absurd cc
     go (Some u) e h = (ts, ap (λ (t : Tok). t ∷ ts) (of_fixed s t u e))
 
-deep : {A B : Type 0} (f : Tok → Option B) (p : Below → Parser A) (d : ℕ) (ts : Toks) (b : B) → d ≡ 0 → made f (first ts) ≡ Some b → opened (below d) f p ts ≡ Err (TooNested, ts)
+pub deep : {A B : Type 0} (f : Tok → Option B) (p : Below → Parser A) (d : ℕ) (ts : Toks) (b : B) → d ≡ 0 → made f (first ts) ≡ Some b → opened (below d) f p ts ≡ Err (TooNested, ts)
 unfolding below too_deep
 deep f p zero [] b e h = absurd cc
 deep f p zero (t ∷ ts) b e h = rw h refl
 deep f p (suc d) ts b e h = absurd (omega (arith, e))
 
-within : {A B : Type 0} (f : Tok → Option B) (p : Below → Parser A) (d : ℕ) (ts : Toks) → d ≢ 0 → opened (below d) f p ts ≡ p (under (d - 1)) ts
+pub within : {A B : Type 0} (f : Tok → Option B) (p : Below → Parser A) (d : ℕ) (ts : Toks) → d ≢ 0 → opened (below d) f p ts ≡ p (under (d - 1)) ts
 unfolding below
 within f p zero ts e = absurd (e refl)
 within f p (suc d) ts e = let same : d ≡ suc d - 1 = omega arith in ap (λ (k : ℕ). p (under k) ts) same
 
-made_sign : (s : Sign) (ts : Toks) → sees s (first ts) ≡ true → made (fixed s) (first ts) ≡ Some tt
+pub made_sign : (s : Sign) (ts : Toks) → sees s (first ts) ≡ true → made (fixed s) (first ts) ≡ Some tt
 made_sign s [] h = absurd cc
 made_sign s (t ∷ ts) h = go (fixed s t) h
   where

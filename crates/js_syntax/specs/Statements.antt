@@ -83,9 +83,12 @@ block_at d = expect OpenBrace >>= λ _. items_at d >>= λ is. expect CloseBrace 
 abbrev pub test_at : ℕ → Parser Ex
 test_at d = expect OpenRound >>= λ _. expr (below d) >>= λ e. expect CloseRound >>= λ _. pure e
 
+abbrev pub arms_of : Item → Option Item → Item × Option Item
+arms_of s t = (s, t)
+
 abbrev pub arm_by_at : ℕ → Item → Bool → Parser (Item × Option Item)
-arm_by_at d s true = keyword kept.Else >>= λ _. inner_at d >>= λ t. pure (s, Some t)
-arm_by_at d s false = pure (s, None)
+arm_by_at d s true = keyword kept.Else >>= λ _. inner_at d >>= λ t. pure (arms_of s (Some t))
+arm_by_at d s false = pure (arms_of s None)
 
 -- its one or two statements
 abbrev pub arms_at : ℕ → Parser (Item × Option Item)
