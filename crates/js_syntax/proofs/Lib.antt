@@ -4,3 +4,4 @@ pub mod Values
 pub mod Props
 pub mod Else
 pub mod Statements
+pub mod Opening

@@ -11,11 +11,12 @@ use Rattle.script_text.specs.declared.token.Kind.TheVariants as kind
 use Rattle.script_text.specs.Lexical.{largest}
 use Rattle.script_grammar.specs.Tokens.{Tok, Name, Kept, Integer, Text, Fixed, Other, Toks, bytes_of, text_value, as_text, seen_as, seen, seen_from}
 use Rattle.script_parser.specs.Steps.{Unexpected, Parser, taken, take as read, first}
-use Rattle.script_parser.specs.Tests.{code, fixed, kept_as, is_some, sees, sees_word, name_of, word_of, unary_of, link_of, begins_suffix, lit_of, text_of}
+use Rattle.script_parser.specs.Tests.{code, fixed, kept_as, is_some, sees, sees_word, name_of, word_of, unary_of, link_of, begins_suffix, in_block, lit_of, text_of}
 use Rattle.js_syntax.specs.Next.{next_kind, is_sign, is_word, is_name, reserved_kind, first_bytes, unary_kind, link_kind, made, linked, signed, text_next, literals, lit_ex, small}
 use Rattle.js_syntax.specs.Reading.{toks}
 use Rattle.js_syntax.specs.Lists.{suffix_next}
-use Rattle.std.specs.Prelude.{◌||◌}
+use Rattle.js_syntax.specs.Statements.{item_next}
+use Rattle.std.specs.Prelude.{◌||◌, not}
 use Rattle.script_grammar.specs.Trees.{Word, Named, Reserve, Lit, Number, Quote, Ex, Literal}
 use Rattle.std.proofs.lemmas.Bool.Decides.{nat_tests}
 use Rattle.script_text.specs.declared.sign.Sign.TheVariants.{Same, NotSame, AtMost, AtLeast, And, Or, OpenRound, CloseRound, OpenBrace, CloseBrace, OpenSquare, CloseSquare, Comma, Semicolon, Colon, Dot, Question, Assign, Less, Greater, Plus, Minus, Star, Percent, Not}
@@ -250,6 +251,25 @@ suffix_first (Some t) = suffix_token t
 pub suffix_is : (bytes : List ℕ) (tokens : List Token) (at : ℕ) → suffix_next (first (toks bytes tokens at)) ≡ (sees Dot (first (toks bytes tokens at)) || sees OpenSquare (first (toks bytes tokens at)))
 suffix_is bytes tokens at = suffix_first (first (toks bytes tokens at))
 
+some_token : (tokens : List Token) (at : ℕ) → at < length tokens → Token
+some_token [] at l = absurd (omega (arith, l))
+some_token (t ∷ ts) at l = t
+
+item_token : (t : Tok) → in_block t ≡ not (sees CloseBrace (Some t))
+item_token (Name at bytes) = refl
+item_token (Kept r) = refl
+item_token (Integer n) = refl
+item_token (Text b) = refl
+item_token Other = refl
+item_token (Fixed CloseBrace) = refl
+item_token (Fixed _) = refl
+
+pub item_is : (bytes : List ℕ) (tokens : List Token) (at : ℕ) → at < length tokens → item_next (first (toks bytes tokens at)) ≡ not (sees CloseBrace (first (toks bytes tokens at)))
+item_is bytes tokens at l = let t = some_token tokens at l in rw (toks_here bytes tokens at t l) (item_token (seen bytes at (slice_index_or tokens at t)))
+
+pub item_ends : (bytes : List ℕ) (tokens : List Token) (at : ℕ) → length tokens ≤ at → item_next (first (toks bytes tokens at)) ≡ false
+item_ends bytes tokens at l = rw (toks_end bytes tokens at l) refl
+
 -- ---- keys
 key_of_name : (c : Option Tok) (n : ℕ × List ℕ) → made name_of c ≡ Some n → made word_of c ≡ Some (Named n.0 n.1)
 key_of_name None n h = absurd cc
@@ -315,10 +335,6 @@ key_none bytes tokens at h r = read_none word_of (toks bytes tokens at) (no_key_
 
 pub first_bytes_is : (bytes : List ℕ) (tokens : List Token) (at : ℕ) (t : Token) → at < length tokens → first_bytes bytes (drop at tokens) ≡ bytes_of bytes (slice_index_or tokens at t)
 first_bytes_is bytes tokens at t l = let e : drop at tokens ≡ slice_index_or tokens at t ∷ drop (at + 1) tokens = rw (add-one, drop-cons tokens at t) refl in rw e refl
-
-some_token : (tokens : List Token) (at : ℕ) → at < length tokens → Token
-some_token [] at l = absurd (omega (arith, l))
-some_token (t ∷ ts) at l = t
 
 pub name_here : (bytes : List ℕ) (tokens : List Token) (at : ℕ) (n : ℕ × List ℕ) → at < length tokens → is_some (made name_of (first (toks bytes tokens at))) ≡ true → n ≡ (at, first_bytes bytes (drop at tokens)) → read name_of (toks bytes tokens at) ≡ Ok (n, toks bytes tokens (at + 1))
 name_here bytes tokens at n l h e = let t = some_token tokens at l in rw (e, first_bytes_is bytes tokens at t l) (name_read bytes tokens at t l h)

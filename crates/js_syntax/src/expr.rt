@@ -454,3 +454,18 @@ pub(crate) fn read(
         Ok((operand, at))
     }
 }
+
+/// An atom with its members, with so many levels left.
+pub(crate) fn read_post(alloc: Global, source: Source<'_>, at: usize, depth: usize) -> Result<(Expr, usize), Stop>
+    ensures is { Reads view (post_rule (below depth)) source.entry.bytes.now source.entry.tokens.now at result }
+    ensures forward { Forward at result }
+{
+    let rules = Rules {
+        alloc,
+        source,
+        depth,
+        read,
+    };
+    let (post, at) = rules.post(at)?;
+    Ok((post, at))
+}

@@ -2,5 +2,6 @@
 #![tactic(auto)]
 
 mod expr;
+mod level;
 mod source;
 mod text;

@@ -11,6 +11,7 @@ ghost use Rattle.js_syntax.specs.Reading.{toks, Fails, Reads};
 ghost use Rattle.script_tree.specs.View.{name_pair, word_of as word_view, view, nat_of};
 ghost use Rattle.script_grammar.specs.Tokens.{Kept};
 ghost use Rattle.js_syntax.specs.Lists.{suffix_next, Forward};
+ghost use Rattle.js_syntax.specs.Statements.{item_next};
 
 use crate::text::text_value;
 use script_text::{Kind, Reserved, Sign, Token};
@@ -222,6 +223,15 @@ impl Source<'_> {
         ensures next { IsTrue result → at + 1 < 2 ^ 64 }
     {
         self.sees(at, Sign::Dot) || self.sees(at, Sign::OpenSquare)
+    }
+
+    /// Whether a token comes next that closes no block.
+    #[tactic(auto, using(crate::proofs::Seen::item_is, crate::proofs::Seen::item_ends))]
+    pub(crate) fn begins_item(&self, at: usize) -> bool
+        ensures is { result ≡ item_next (first (toks self.now.bytes.now self.now.tokens.now at)) }
+        ensures within { IsTrue result → at < length self.now.tokens.now }
+    {
+        at < self.tokens.len() && !self.sees(at, Sign::CloseBrace)
     }
 
     /// A word in the place of a key.

@@ -1,0 +1,59 @@
+-- Levels that are left, and what an expression may be used for.
+use Rattle.std.proofs.Common.{◌≡◌, ◌≢◌, ℕ, zero, suc, ◌+◌, ◌-◌, Bool, true, false, List, [], ◌∷◌, Option, Some, None, Err, refl, sym, ap, ◌∙◌, map}
+use Rattle.script_text.specs.declared.sign.Sign.{Sign}
+use Rattle.script_text.specs.declared.sign.Sign.TheVariants.{OpenRound}
+use Rattle.script_grammar.specs.Tokens.{Tok, Toks}
+use Rattle.script_grammar.specs.Trees.{Ex, Item}
+use Rattle.script_grammar.specs.Rules.{is_member, is_target}
+use Rattle.script_parser.specs.Steps.{Why, Unexpected, TooNested, refused, too_deep, first}
+use Rattle.script_parser.specs.Tests.{fixed, is_some, sees}
+use Rattle.script_parser.specs.Parser.{opened, thrown_error, below}
+use Rattle.script_tree.specs.declared.Expr.{Expr}
+use Rattle.script_tree.specs.declared.Expr.TheVariants as ex
+use Rattle.script_tree.specs.declared.Access.{Access}
+use Rattle.script_tree.specs.View.{view, member_of, chain_of}
+use Rattle.script_tree.proofs.Views.{view_chain, view_member, view_round, view_list, view_object, view_unary, view_choice, view_name, view_number, view_text, view_true, view_false, view_null, view_undefined}
+use Rattle.js_syntax.specs.Statements.{plainly, error_at}
+use Rattle.js_syntax.proofs.Rules.{within}
+use Rattle.js_syntax.proofs.Statements.{error_plain}
+
+pub too_deep_sign : {A : Type 0} (s : Sign) (ts : Toks) → sees s (first ts) ≡ true → too_deep {A = A} (fixed s) ts ≡ Err (TooNested, ts)
+unfolding too_deep
+too_deep_sign s [] h = absurd cc
+too_deep_sign {A = A} s (t ∷ ts) h = go (fixed s t) h
+  where
+    go : (o : Option (Unit {0})) → is_some o ≡ true → Err {A = A × Toks} (refused o, t ∷ ts) ≡ Err (TooNested, t ∷ ts)
+    go None h = absurd cc
+    go (Some u) h = refl
+
+pub too_deep_other : {A : Type 0} (s : Sign) (ts : Toks) → sees s (first ts) ≡ false → too_deep {A = A} (fixed s) ts ≡ Err (Unexpected, ts)
+unfolding too_deep
+too_deep_other s [] h = refl
+too_deep_other {A = A} s (t ∷ ts) h = go (fixed s t) h
+  where
+    go : (o : Option (Unit {0})) → is_some o ≡ false → Err {A = A × Toks} (refused o, t ∷ ts) ≡ Err (Unexpected, t ∷ ts)
+    go None h = refl
+    go (Some u) h = absurd cc
+
+pub error_deep : (d : ℕ) (ts : Toks) (x : Why × Toks) → d ≡ 0 → too_deep {A = Item} (fixed OpenRound) ts ≡ Err x → opened (below d) (fixed OpenRound) (λ b. plainly (thrown_error b)) ts ≡ Err x
+unfolding below
+error_deep zero ts x e h = h
+error_deep (suc d) ts x e h = absurd cc
+
+pub error_in : (d : ℕ) (ts : Toks) → d ≢ 0 → opened (below d) (fixed OpenRound) (λ b. plainly (thrown_error b)) ts ≡ error_at (d - 1) ts
+error_in d ts h = within (fixed OpenRound) (λ b. plainly (thrown_error b)) d ts h ∙ error_plain (d - 1) ts
+
+-- ---- by the variant
+member_any : (e : Ex) (ss : List (Access × List Ex)) → is_member (member_of e ss) ≡ true
+member_any e [] = refl
+member_any e (s ∷ ss) = refl
+
+target_any : (e : Ex) (ss : List (Access × List Ex)) → is_target (member_of e ss) ≡ true
+target_any e [] = refl
+target_any e (s ∷ ss) = refl
+
+pub member_seen : (e : Expr) (ss : List (Access × List Expr)) → is_member (view (ex.Member e ss)) ≡ true
+member_seen e ss = rw (view_member e ss) (member_any (view e) (map (λ (l : Access × List Expr). (l.0, map view l.1)) ss))
+
+pub target_seen : (e : Expr) (ss : List (Access × List Expr)) → is_target (view (ex.Member e ss)) ≡ true
+target_seen e ss = rw (view_member e ss) (target_any (view e) (map (λ (l : Access × List Expr). (l.0, map view l.1)) ss))
