@@ -13,30 +13,30 @@ use Rattle.script_tree.specs.declared.Expr.TheVariants as ex
 use Rattle.script_tree.specs.declared.Access.{Access}
 use Rattle.script_tree.specs.View.{view, member_of, chain_of}
 use Rattle.script_tree.proofs.Views.{view_chain, view_member, view_round, view_list, view_object, view_unary, view_choice, view_name, view_number, view_text, view_true, view_false, view_null, view_undefined}
-use Rattle.js_syntax.specs.Statements.{plainly, error_at}
+use Rattle.js_syntax.specs.Statements.{plainly, no_level, error_at}
 use Rattle.js_syntax.proofs.Rules.{within}
 use Rattle.js_syntax.proofs.Statements.{error_plain}
 
-pub too_deep_sign : {A : Type 0} (s : Sign) (ts : Toks) → sees s (first ts) ≡ true → too_deep {A = A} (fixed s) ts ≡ Err (TooNested, ts)
-unfolding too_deep
+too_many : {B : Type 0} (o : Option B) → is_some o ≡ true → refused o ≡ TooNested
+too_many None h = absurd cc
+too_many (Some u) h = refl
+
+misplaced : {B : Type 0} (o : Option B) → is_some o ≡ false → refused o ≡ Unexpected
+misplaced None h = refl
+misplaced (Some u) h = absurd cc
+
+pub too_deep_sign : (s : Sign) (ts : Toks) → sees s (first ts) ≡ true → no_level s ts ≡ Err (TooNested, ts)
+unfolding no_level too_deep
 too_deep_sign s [] h = absurd cc
-too_deep_sign {A = A} s (t ∷ ts) h = go (fixed s t) h
-  where
-    go : (o : Option (Unit {0})) → is_some o ≡ true → Err {A = A × Toks} (refused o, t ∷ ts) ≡ Err (TooNested, t ∷ ts)
-    go None h = absurd cc
-    go (Some u) h = refl
+too_deep_sign s (t ∷ ts) h = rw (too_many (fixed s t) h) refl
 
-pub too_deep_other : {A : Type 0} (s : Sign) (ts : Toks) → sees s (first ts) ≡ false → too_deep {A = A} (fixed s) ts ≡ Err (Unexpected, ts)
-unfolding too_deep
+pub too_deep_other : (s : Sign) (ts : Toks) → sees s (first ts) ≡ false → no_level s ts ≡ Err (Unexpected, ts)
+unfolding no_level too_deep
 too_deep_other s [] h = refl
-too_deep_other {A = A} s (t ∷ ts) h = go (fixed s t) h
-  where
-    go : (o : Option (Unit {0})) → is_some o ≡ false → Err {A = A × Toks} (refused o, t ∷ ts) ≡ Err (Unexpected, t ∷ ts)
-    go None h = refl
-    go (Some u) h = absurd cc
+too_deep_other s (t ∷ ts) h = rw (misplaced (fixed s t) h) refl
 
-pub error_deep : (d : ℕ) (ts : Toks) (x : Why × Toks) → d ≡ 0 → too_deep {A = Item} (fixed OpenRound) ts ≡ Err x → opened (below d) (fixed OpenRound) (λ b. plainly (thrown_error b)) ts ≡ Err x
-unfolding below
+pub error_deep : (d : ℕ) (ts : Toks) (x : Why × Toks) → d ≡ 0 → no_level OpenRound ts ≡ Err x → opened (below d) (fixed OpenRound) (λ b. plainly (thrown_error b)) ts ≡ Err x
+unfolding below no_level
 error_deep zero ts x e h = h
 error_deep (suc d) ts x e h = absurd cc
 

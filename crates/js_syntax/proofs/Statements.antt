@@ -20,7 +20,7 @@ use Rattle.script_tree.specs.View.{item_view, items_of, if_of}
 use Rattle.script_tree.proofs.Statements.{view_empty}
 use Rattle.js_syntax.specs.Next.{made}
 use Rattle.js_syntax.specs.Reading.{toks}
-use Rattle.js_syntax.specs.Statements.{plainly, closed, const_at, let_at, return_by_at, return_at, error_at, throw_by_at, throw_at, deleted_at, delete_at, assign_by_at, assign_at, stmt_at, item_at, items_at, inner_at, block_at, test_at, arms_of, arm_by_at, arms_at, if_at, items_before, onto_items, item_next}
+use Rattle.js_syntax.specs.Statements.{plainly, closed, no_level, const_at, let_at, return_by_at, return_at, error_at, throw_by_at, throw_at, deleted_at, delete_at, assign_by_at, assign_at, stmt_at, item_at, items_at, inner_at, block_at, test_at, arms_of, arm_by_at, arms_at, if_at, items_before, onto_items, item_next}
 use Rattle.js_syntax.proofs.Seen.{sign_read, word_read}
 use Rattle.js_syntax.proofs.Rules.{seen_sign, deep, within, made_sign}
 use Rattle.js_syntax.proofs.Else.{else_is}
@@ -193,8 +193,8 @@ stmt_if : (d : ℕ) (bytes : List ℕ) (tokens : List Token) (at : ℕ) → sees
 unfolding stmt_at
 stmt_if d bytes tokens at h = rw (by_word kept.If IfForm (toks bytes tokens at) refl h) (plain_bind (keyword kept.If) _ _ (toks bytes tokens at) (λ _ ts. plain_opened (below d) (fixed OpenRound) conditional ts) ∙ rw (word_read kept.If bytes tokens at h) refl)
 
-pub stmt_if_deep : (d : ℕ) (bytes : List ℕ) (tokens : List Token) (at : ℕ) (x : Why × Toks) → d ≡ 0 → sees_word kept.If (first (toks bytes tokens at)) ≡ true → too_deep {A = Item} (fixed OpenRound) (toks bytes tokens (at + 1)) ≡ Err x → stmt_at d (toks bytes tokens at) ≡ Err x
-unfolding below
+pub stmt_if_deep : (d : ℕ) (bytes : List ℕ) (tokens : List Token) (at : ℕ) (x : Why × Toks) → d ≡ 0 → sees_word kept.If (first (toks bytes tokens at)) ≡ true → no_level OpenRound (toks bytes tokens (at + 1)) ≡ Err x → stmt_at d (toks bytes tokens at) ≡ Err x
+unfolding below no_level
 stmt_if_deep zero bytes tokens at x e h k = stmt_if 0 bytes tokens at h ∙ k
 stmt_if_deep (suc d) bytes tokens at x e h k = absurd cc
 

@@ -1,16 +1,12 @@
 //! Statements and declarations that hold no other.
 
 ghost use Rattle.std.specs.Prelude.{◌≡◌, ◌<◌, ◌≤◌, ◌-◌, IfOk, IfErr};
-ghost use Rattle.script_text.specs.declared.sign.Sign.TheVariants.{OpenRound};
 ghost use Rattle.script_grammar.specs.Rules.{is_member, is_target};
-ghost use Rattle.script_grammar.specs.Trees.{Item};
 ghost use Rattle.script_parser.specs.Parser.{below, expr as expr_rule, post as post_rule};
-ghost use Rattle.script_parser.specs.Steps.{too_deep};
-ghost use Rattle.script_parser.specs.Tests.{fixed};
 ghost use Rattle.script_tree.specs.View.{view, item_view};
 ghost use Rattle.js_syntax.specs.Reading.{toks, Reads, Fails};
 ghost use Rattle.js_syntax.specs.Lists.{Forward};
-ghost use Rattle.js_syntax.specs.Statements.{const_at, let_at, return_at, error_at, throw_at, delete_at, assign_at};
+ghost use Rattle.js_syntax.specs.Statements.{no_level, const_at, let_at, return_at, error_at, throw_at, delete_at, assign_at};
 
 use crate::expr::{read, read_post};
 use crate::source::{Source, Stop};
@@ -52,7 +48,7 @@ impl Level<'_> {
     pub(crate) fn opening(&self, at: usize, sign: Sign) -> Result<(), Stop>
         ensures ok { IfOk result (λ _. 0 < self.now.depth) }
         ensures full { IfErr result (λ f. self.now.depth ≡ 0) }
-        ensures err { IfErr result (λ f. Fails self.now.source.bytes.now self.now.source.tokens.now f (too_deep {A = Item} (fixed sign) (toks self.now.source.bytes.now self.now.source.tokens.now at))) }
+        ensures err { IfErr result (λ f. Fails self.now.source.bytes.now self.now.source.tokens.now f (no_level sign (toks self.now.source.bytes.now self.now.source.tokens.now at))) }
     {
         if self.depth > 0 {
             Ok(())
