@@ -1,5 +1,5 @@
 -- What each rule for statements does at the next token and the levels that are left.
-use Rattle.std.proofs.Common.{◌≡◌, ◌≢◌, ℕ, zero, suc, ◌+◌, ◌-◌, Bool, true, false, List, [], ◌∷◌, ◌++◌, Option, Some, None, Ok, Err, refl, sym, ap, ◌∙◌}
+use Rattle.std.proofs.Common.{◌≡◌, ◌≢◌, ℕ, zero, suc, ◌+◌, ◌-◌, Bool, true, false, List, [], ◌∷◌, ◌++◌, Option, Some, None, Ok, Err, refl, sym, ap, ◌∙◌, map}
 use Rattle.std.specs.Prelude.{if◌then◌else◌}
 use Rattle.script_text.specs.declared.sign.Sign.TheVariants.{OpenRound, CloseRound, OpenBrace, CloseBrace, Semicolon, Assign}
 use Rattle.script_text.specs.declared.word.Reserved.{Reserved}
@@ -16,11 +16,12 @@ use Rattle.script_parser.proofs.Accept.{under, goods_under}
 use Rattle.script_parser.proofs.Statements.{items_is}
 use Rattle.script_tree.specs.declared.Stmt.{Stmt}
 use Rattle.script_tree.specs.declared.Stmt.TheVariants as st
-use Rattle.script_tree.specs.View.{item_view, items_of, if_of}
-use Rattle.script_tree.proofs.Statements.{view_empty}
+use Rattle.script_tree.specs.declared.Expr.{Expr}
+use Rattle.script_tree.specs.View.{view, item_view, items_of, if_of}
+use Rattle.script_tree.proofs.Statements.{view_empty, view_if_else}
 use Rattle.js_syntax.specs.Next.{made}
 use Rattle.js_syntax.specs.Reading.{toks}
-use Rattle.js_syntax.specs.Statements.{plainly, closed, no_level, const_at, let_at, return_by_at, return_at, error_at, throw_by_at, throw_at, deleted_at, delete_at, assign_by_at, assign_at, stmt_at, item_at, items_at, inner_at, block_at, test_at, arms_of, arm_by_at, arms_at, if_at, items_before, onto_items, item_next}
+use Rattle.js_syntax.specs.Statements.{plainly, closed, no_level, const_at, let_at, return_by_at, return_at, error_at, throw_by_at, throw_at, deleted_at, delete_at, assign_by_at, assign_at, stmt_at, item_at, items_at, inner_at, block_at, test_at, else_at, arm_by_at, arms_at, if_at, items_before, onto_items, item_next}
 use Rattle.js_syntax.proofs.Seen.{sign_read, word_read}
 use Rattle.js_syntax.proofs.Rules.{seen_sign, deep, within, made_sign}
 use Rattle.js_syntax.proofs.Else.{else_is}
@@ -153,40 +154,42 @@ inner_other d ts h = rw h refl
 
 -- ---- conditionals
 -- what stands behind the test
-arms_plain : (d : ℕ) (e : Ex) (ts : Toks) → plainly (inner (under d) >>= λ s. look (λ c. else_by (under d) e s (may_else s c))) ts ≡ (arms_at d >>= λ a. pure (Plain (if_of e a.0 a.1))) ts
+arms_plain : (d : ℕ) (e : Ex) (ts : Toks) → plainly (inner (under d) >>= λ s. look (λ c. else_by (under d) e s (may_else s c))) ts ≡ arms_at d e ts
 unfolding inner_at
 arms_plain d e ts = go (inner (under d) ts) refl
   where
-    last : (s : St) (o : Outcome St) → and_then (and_then o (λ t. pure (IfElse e s t))) (λ s. pure (Plain s)) ≡ and_then (and_then (and_then o (λ t. pure (Plain t))) (λ t. pure (arms_of (Plain s) (Some t)))) (λ a. pure (Plain (if_of e a.0 a.1)))
+    last : (s : St) (o : Outcome St) → and_then (and_then o (λ t. pure (IfElse e s t))) (λ s. pure (Plain s)) ≡ and_then (and_then o (λ t. pure (Plain t))) (λ t. pure (Plain (if_of e (Plain s) (Some t))))
     last s (Ok q) = refl
     last s (Err x) = refl
 
-    word : (s : St) (o : Outcome (Unit {0})) → and_then (and_then o (λ _. inner (under d) >>= λ t. pure (IfElse e s t))) (λ s. pure (Plain s)) ≡ and_then (and_then o (λ _. inner_at d >>= λ t. pure (arms_of (Plain s) (Some t)))) (λ a. pure (Plain (if_of e a.0 a.1)))
-    word s (Ok q) = last s (inner (under d) q.1)
-    word s (Err x) = refl
-
-    arm : (s : St) (c : Bool) (rest : Toks) → plainly (else_by (under d) e s c) rest ≡ and_then (arm_by_at d (Plain s) c rest) (λ a. pure (Plain (if_of e a.0 a.1)))
-    arm s true rest = word s (keyword kept.Else rest)
+    arm : (s : St) (c : Bool) (rest : Toks) → plainly (else_by (under d) e s c) rest ≡ arm_by_at d e (Plain s) c rest
+    arm s true rest = plain_bind (keyword kept.Else) _ _ rest (λ _ ts. last s (inner (under d) ts))
     arm s false rest = refl
 
-    go : (o : Outcome St) → inner (under d) ts ≡ o → and_then (and_then o (λ s. look (λ c. else_by (under d) e s (may_else s c)))) (λ s. pure (Plain s)) ≡ and_then (and_then (and_then o (λ s. pure (Plain s))) (λ s. look (λ c. arm_by_at d s (sees_word kept.Else c)))) (λ a. pure (Plain (if_of e a.0 a.1)))
+    go : (o : Outcome St) → inner (under d) ts ≡ o → and_then (and_then o (λ s. look (λ c. else_by (under d) e s (may_else s c)))) (λ s. pure (Plain s)) ≡ and_then (and_then o (λ s. pure (Plain s))) (λ s. look (λ c. arm_by_at d e s (sees_word kept.Else c)))
     go (Err x) q = refl
     go (Ok r) q = rw (else_is d ts r.1 r.0 q) (arm r.0 (sees_word kept.Else (first r.1)) r.1)
 
 if_plain : (d : ℕ) (ts : Toks) → plainly (conditional (under d)) ts ≡ if_at d ts
 if_plain d ts = one (expect OpenRound ts)
   where
-    three : (e : Ex) (o : Outcome (Unit {0})) → and_then (and_then o (λ _. inner (under d) >>= λ s. look (λ c. else_by (under d) e s (may_else s c)))) (λ s. pure (Plain s)) ≡ and_then (and_then o (λ _. pure e)) (λ e. arms_at d >>= λ a. pure (Plain (if_of e a.0 a.1)))
+    three : (e : Ex) (o : Outcome (Unit {0})) → and_then (and_then o (λ _. inner (under d) >>= λ s. look (λ c. else_by (under d) e s (may_else s c)))) (λ s. pure (Plain s)) ≡ and_then (and_then o (λ _. pure e)) (λ e. arms_at d e)
     three e (Ok q) = arms_plain d e q.1
     three e (Err x) = refl
 
-    two : (o : Outcome Ex) → and_then (and_then o (λ e. expect CloseRound >>= λ _. inner (under d) >>= λ s. look (λ c. else_by (under d) e s (may_else s c)))) (λ s. pure (Plain s)) ≡ and_then (and_then o (λ e. expect CloseRound >>= λ _. pure e)) (λ e. arms_at d >>= λ a. pure (Plain (if_of e a.0 a.1)))
+    two : (o : Outcome Ex) → and_then (and_then o (λ e. expect CloseRound >>= λ _. inner (under d) >>= λ s. look (λ c. else_by (under d) e s (may_else s c)))) (λ s. pure (Plain s)) ≡ and_then (and_then o (λ e. expect CloseRound >>= λ _. pure e)) (λ e. arms_at d e)
     two (Ok q) = three q.0 (expect CloseRound q.1)
     two (Err x) = refl
 
-    one : (o : Outcome (Unit {0})) → and_then (and_then o (λ _. expr (below d) >>= λ e. expect CloseRound >>= λ _. inner (under d) >>= λ s. look (λ c. else_by (under d) e s (may_else s c)))) (λ s. pure (Plain s)) ≡ and_then (and_then o (λ _. expr (below d) >>= λ e. expect CloseRound >>= λ _. pure e)) (λ e. arms_at d >>= λ a. pure (Plain (if_of e a.0 a.1)))
+    one : (o : Outcome (Unit {0})) → and_then (and_then o (λ _. expr (below d) >>= λ e. expect CloseRound >>= λ _. inner (under d) >>= λ s. look (λ c. else_by (under d) e s (may_else s c)))) (λ s. pure (Plain s)) ≡ and_then (and_then o (λ _. expr (below d) >>= λ e. expect CloseRound >>= λ _. pure e)) (λ e. arms_at d e)
     one (Ok q) = two (expr (below d) q.1)
     one (Err x) = refl
+
+pub else_ok : (d : ℕ) (bytes : List ℕ) (tokens : List Token) (at next : ℕ) (e : Expr) (s t : Stmt) → sees_word kept.Else (first (toks bytes tokens at)) ≡ true → inner_at d (toks bytes tokens (at + 1)) ≡ Ok (item_view t, toks bytes tokens next) → else_at d (view e) (item_view s) (toks bytes tokens at) ≡ Ok (item_view (st.If e s (Some t)), toks bytes tokens next)
+else_ok d bytes tokens at next e s t h c = rw (word_read kept.Else bytes tokens at h, c, view_if_else e s t) refl
+
+pub else_err : (d : ℕ) (bytes : List ℕ) (tokens : List Token) (at : ℕ) (e : Ex) (s : Item) (x : Why × Toks) → sees_word kept.Else (first (toks bytes tokens at)) ≡ true → inner_at d (toks bytes tokens (at + 1)) ≡ Err x → else_at d e s (toks bytes tokens at) ≡ Err x
+else_err d bytes tokens at e s x h c = rw (word_read kept.Else bytes tokens at h, c) refl
 
 -- a conditional, behind its word
 stmt_if : (d : ℕ) (bytes : List ℕ) (tokens : List Token) (at : ℕ) → sees_word kept.If (first (toks bytes tokens at)) ≡ true → stmt_at d (toks bytes tokens at) ≡ opened (below d) (fixed OpenRound) (λ b. plainly (conditional b)) (toks bytes tokens (at + 1))
@@ -242,3 +245,7 @@ items_on d ts rest s found h c = ap (onto_items found) (items_go d ts h ∙ rw c
 
 pub items_fault : (d : ℕ) (ts : Toks) (x : Why × Toks) (found : List Stmt) → item_next (first ts) ≡ true → item_at d ts ≡ Err x → onto_items found (items_at d ts) ≡ Err x
 items_fault d ts x found h c = let whole : items_at d ts ≡ Err x = items_go d ts h ∙ rw c refl in ap (onto_items found) whole
+
+pub items_same : (ss : List Stmt) → items_before ss NoItems ≡ items_of (map item_view ss)
+items_same [] = refl
+items_same (s ∷ ss) = ap (ThenItem (item_view s)) (items_same ss)

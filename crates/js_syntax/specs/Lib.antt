@@ -4,3 +4,4 @@ pub mod Next
 pub mod Reading
 pub mod Values
 pub mod Statements
+pub mod NestsItems

@@ -88,24 +88,22 @@ block_at d = expect OpenBrace >>= λ _. items_at d >>= λ is. expect CloseBrace 
 abbrev pub test_at : ℕ → Parser Ex
 test_at d = expect OpenRound >>= λ _. expr (below d) >>= λ e. expect CloseRound >>= λ _. pure e
 
-abbrev pub arms_of : Item → Option Item → Item × Option Item
-arms_of s t = (s, t)
+-- what stands behind the first of its statements
+abbrev pub else_at : ℕ → Ex → Item → Parser Item
+else_at d e s = keyword kept.Else >>= λ _. inner_at d >>= λ t. pure (Plain (if_of e s (Some t)))
 
-abbrev pub arm_by_at : ℕ → Item → Bool → Parser (Item × Option Item)
-arm_by_at d s true = keyword kept.Else >>= λ _. inner_at d >>= λ t. pure (arms_of s (Some t))
-arm_by_at d s false = pure (arms_of s None)
+abbrev pub arm_by_at : ℕ → Ex → Item → Bool → Parser Item
+arm_by_at d e s true = else_at d e s
+arm_by_at d e s false = pure (Plain (if_of e s None))
 
--- its one or two statements
-abbrev pub arms_at : ℕ → Parser (Item × Option Item)
-arms_at d = inner_at d >>= λ s. look (λ c. arm_by_at d s (sees_word kept.Else c))
+-- what stands behind its test
+abbrev pub arms_at : ℕ → Ex → Parser Item
+arms_at d e = inner_at d >>= λ s. look (λ c. arm_by_at d e s (sees_word kept.Else c))
 
 abbrev pub if_at : ℕ → Parser Item
-if_at d = test_at d >>= λ e. arms_at d >>= λ a. pure (Plain (if_of e a.0 a.1))
+if_at d = test_at d >>= λ e. arms_at d e
 
 -- ---- what the code has read
-abbrev pub arms_view : Stmt × Option Stmt → Item × Option Item
-arms_view p = (item_view p.0, elim (p.1) [ None ↦ None | Some t ↦ Some (item_view t) ])
-
 abbrev pub items_before : List Stmt → Items → Items
 items_before [] rest = rest
 items_before (s ∷ ss) rest = ThenItem (item_view s) (items_before ss rest)

@@ -6,7 +6,7 @@ ghost use Rattle.script_parser.specs.Parser.{below, expr as expr_rule, post as p
 ghost use Rattle.script_tree.specs.View.{view, item_view};
 ghost use Rattle.js_syntax.specs.Reading.{toks, Reads, Fails};
 ghost use Rattle.js_syntax.specs.Lists.{Forward};
-ghost use Rattle.js_syntax.specs.Statements.{no_level, const_at, let_at, return_at, error_at, throw_at, delete_at, assign_at};
+ghost use Rattle.js_syntax.specs.Statements.{no_level, test_at, const_at, let_at, return_at, error_at, throw_at, delete_at, assign_at};
 
 use crate::expr::{read, read_post};
 use crate::source::{Source, Stop};
@@ -57,6 +57,18 @@ impl Level<'_> {
         } else {
             Err(Stop::Unexpected(at))
         }
+    }
+
+    /// The test of a conditional.
+    pub(crate) fn test(&self, at: usize) -> Result<(Expr, usize), Stop>
+        requires { 0 < self.now.depth }
+        ensures is { Reads view (test_at (self.now.depth - 1)) self.now.source.bytes.now self.now.source.tokens.now at result }
+        ensures forward { IfOk result (λ x. at < x.1) }
+    {
+        let at = self.source.expect(at, Sign::OpenRound)?;
+        let (test, at) = self.inner_expr(at)?;
+        let at = self.source.expect(at, Sign::CloseRound)?;
+        Ok((test, at))
     }
 
     /// `const` with its value.

@@ -4,4 +4,5 @@
 mod expr;
 mod level;
 mod source;
+mod stmt;
 mod text;
