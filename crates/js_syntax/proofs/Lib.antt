@@ -5,3 +5,4 @@ pub mod Props
 pub mod Else
 pub mod Statements
 pub mod Opening
+pub mod Reducers

@@ -14,7 +14,7 @@ use Rattle.script_tree.specs.declared.Expr.TheVariants as ex
 use Rattle.script_tree.specs.View.{name_pair}
 use Rattle.script_tree.proofs.Views.{view_name}
 use Rattle.js_syntax.specs.Next.{made, next_kind, reserved_kind, text_next}
-use Rattle.js_syntax.specs.Reading.{toks}
+use Rattle.script_grammar.specs.Sources.{toks}
 use Rattle.js_syntax.specs.Lists.{one_prop, prop_at, valued_at}
 use Rattle.js_syntax.proofs.Seen.{read_some, key_reserved, key_none}
 

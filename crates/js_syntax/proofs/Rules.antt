@@ -20,7 +20,8 @@ use Rattle.script_tree.specs.declared.Expr.TheVariants as ex
 use Rattle.script_tree.proofs.Views.{view_unary}
 use Rattle.script_tree.specs.View.{view, chain_of, links_of, member_of, suffix_of, suffixes_of, prop_of, elems_of, props_of}
 use Rattle.js_syntax.specs.Next.{made, linked, signed, literals}
-use Rattle.js_syntax.specs.Reading.{toks, Reads}
+use Rattle.script_grammar.specs.Sources.{toks}
+use Rattle.js_syntax.specs.Reading.{Reads}
 use Rattle.js_syntax.specs.declared.source.Stop.{Stop}
 use Rattle.js_syntax.specs.declared.source.Stop.TheVariants as stop
 use Rattle.js_syntax.specs.Nests.{both, branches_rule}

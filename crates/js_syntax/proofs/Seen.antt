@@ -13,7 +13,7 @@ use Rattle.script_grammar.specs.Tokens.{Tok, Name, Kept, Integer, Text, Fixed, O
 use Rattle.script_parser.specs.Steps.{Unexpected, Parser, taken, take as read, first}
 use Rattle.script_parser.specs.Tests.{code, fixed, kept_as, is_some, sees, sees_word, name_of, word_of, unary_of, link_of, begins_suffix, in_block, lit_of, text_of}
 use Rattle.js_syntax.specs.Next.{next_kind, is_sign, is_word, is_name, reserved_kind, first_bytes, unary_kind, link_kind, made, linked, signed, text_next, literals, lit_ex, small}
-use Rattle.js_syntax.specs.Reading.{toks}
+use Rattle.script_grammar.specs.Sources.{toks}
 use Rattle.js_syntax.specs.Lists.{suffix_next}
 use Rattle.js_syntax.specs.Statements.{item_next}
 use Rattle.std.specs.Prelude.{◌||◌, not}
@@ -64,7 +64,7 @@ pub toks_here : (bytes : List ℕ) (tokens : List Token) (at : ℕ) (t : Token) 
 unfolding seen_from
 toks_here bytes tokens at t h = let e : drop at tokens ≡ slice_index_or tokens at t ∷ drop (at + 1) tokens = rw (add-one, drop-cons tokens at t) refl in rw e refl
 
-or_more : (a b : ℕ) → (a < b) ⊎ (b ≤ a)
+pub or_more : (a b : ℕ) → (a < b) ⊎ (b ≤ a)
 or_more a b = grind arith
 
 sees_list : (s : Sign) (bytes : List ℕ) (k : ℕ) (ts : List Token) → sees s (first (seen_from bytes k ts)) ≡ is_sign s (next_kind ts)
@@ -251,7 +251,7 @@ suffix_first (Some t) = suffix_token t
 pub suffix_is : (bytes : List ℕ) (tokens : List Token) (at : ℕ) → suffix_next (first (toks bytes tokens at)) ≡ (sees Dot (first (toks bytes tokens at)) || sees OpenSquare (first (toks bytes tokens at)))
 suffix_is bytes tokens at = suffix_first (first (toks bytes tokens at))
 
-some_token : (tokens : List Token) (at : ℕ) → at < length tokens → Token
+pub some_token : (tokens : List Token) (at : ℕ) → at < length tokens → Token
 some_token [] at l = absurd (omega (arith, l))
 some_token (t ∷ ts) at l = t
 

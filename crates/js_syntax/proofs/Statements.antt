@@ -20,7 +20,7 @@ use Rattle.script_tree.specs.declared.Expr.{Expr}
 use Rattle.script_tree.specs.View.{view, item_view, items_of, if_of}
 use Rattle.script_tree.proofs.Statements.{view_empty, view_if_else}
 use Rattle.js_syntax.specs.Next.{made}
-use Rattle.js_syntax.specs.Reading.{toks}
+use Rattle.script_grammar.specs.Sources.{toks}
 use Rattle.js_syntax.specs.Statements.{plainly, closed, no_level, const_at, let_at, return_by_at, return_at, error_at, throw_by_at, throw_at, deleted_at, delete_at, assign_by_at, assign_at, stmt_at, item_at, items_at, inner_at, block_at, test_at, else_at, arm_by_at, arms_at, if_at, items_before, onto_items, item_next}
 use Rattle.js_syntax.proofs.Seen.{sign_read, word_read}
 use Rattle.js_syntax.proofs.Rules.{seen_sign, deep, within, made_sign}

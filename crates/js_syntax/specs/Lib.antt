@@ -5,3 +5,4 @@ pub mod Reading
 pub mod Values
 pub mod Statements
 pub mod NestsItems
+pub mod Reducers

@@ -1,14 +1,10 @@
 -- What a reader of the code answers, against a rule of the parser.
-use Rattle.std.specs.Prelude.{◌≡◌, ℕ, List, drop, Result, Ok, Err, MatchResult}
+use Rattle.std.specs.Prelude.{◌≡◌, ℕ, List, Result, Ok, Err, MatchResult}
 use Rattle.script_text.specs.declared.token.Token.{Token}
-use Rattle.script_grammar.specs.Tokens.{Toks, seen_from}
+use Rattle.script_grammar.specs.Sources.{toks}
 use Rattle.script_parser.specs.Steps.{Unexpected, TooNested, Outcome, Parser}
 use Rattle.js_syntax.specs.declared.source.Stop.{Stop}
 use Rattle.js_syntax.specs.declared.source.Stop.TheVariants as stop
-
--- the tokens from a place on
-abbrev pub toks : List ℕ → List Token → ℕ → Toks
-toks bytes tokens at = seen_from bytes at (drop at tokens)
 
 -- the rule stops for the same cause at the same token
 abbrev pub Fails : {A : Type 0} → List ℕ → List Token → Stop → Outcome A → Type 0

@@ -2,7 +2,8 @@
 
 ghost use Rattle.std.specs.Prelude.{◌≡◌, ◌<◌, ◌≤◌, ◌-◌, ◌+◌, ◌^◌, Some, None, false, IfOk, IsTrue};
 ghost use Rattle.script_tree.specs.View.{view};
-ghost use Rattle.js_syntax.specs.Reading.{toks, Reads};
+ghost use Rattle.script_grammar.specs.Sources.{toks};
+ghost use Rattle.js_syntax.specs.Reading.{Reads};
 ghost use Rattle.js_syntax.specs.Next.{linked, made, text_next};
 ghost use Rattle.script_parser.specs.Steps.{first};
 ghost use Rattle.script_parser.specs.Tests.{sees, name_of, is_some};

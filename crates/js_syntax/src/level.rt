@@ -4,7 +4,8 @@ ghost use Rattle.std.specs.Prelude.{◌≡◌, ◌<◌, ◌≤◌, ◌-◌, IfOk
 ghost use Rattle.script_grammar.specs.Rules.{is_member, is_target};
 ghost use Rattle.script_parser.specs.Parser.{below, expr as expr_rule, post as post_rule};
 ghost use Rattle.script_tree.specs.View.{view, item_view};
-ghost use Rattle.js_syntax.specs.Reading.{toks, Reads, Fails};
+ghost use Rattle.script_grammar.specs.Sources.{toks};
+ghost use Rattle.js_syntax.specs.Reading.{Reads, Fails};
 ghost use Rattle.js_syntax.specs.Lists.{Forward};
 ghost use Rattle.js_syntax.specs.Statements.{no_level, test_at, const_at, let_at, return_at, error_at, throw_at, delete_at, assign_at};
 

@@ -3,6 +3,7 @@
 
 mod expr;
 mod level;
+mod program;
 mod source;
 mod stmt;
 mod text;

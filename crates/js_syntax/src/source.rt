@@ -7,7 +7,8 @@ ghost use Rattle.js_syntax.specs.Next.{next_kind, first_bytes, reserved_kind, ma
 ghost use Rattle.script_parser.specs.Steps.{first, take};
 ghost use Rattle.script_parser.specs.Tests.{fixed, kept_as, name_of, word_of, lit_of, is_some, sees, sees_word};
 ghost use Rattle.script_grammar.specs.Rules.{is_unary, level_of};
-ghost use Rattle.js_syntax.specs.Reading.{toks, Fails, Reads};
+ghost use Rattle.script_grammar.specs.Sources.{toks};
+ghost use Rattle.js_syntax.specs.Reading.{Fails, Reads};
 ghost use Rattle.script_tree.specs.View.{name_pair, word_of as word_view, view, nat_of};
 ghost use Rattle.script_grammar.specs.Tokens.{Kept};
 ghost use Rattle.js_syntax.specs.Lists.{suffix_next, Forward};

@@ -7,7 +7,8 @@ ghost use Rattle.script_parser.specs.Steps.{first};
 ghost use Rattle.script_parser.specs.Tests.{sees, sees_word};
 ghost use Rattle.script_text.specs.declared.word.Reserved.TheVariants.{If, Else};
 ghost use Rattle.script_tree.specs.View.{view, item_view};
-ghost use Rattle.js_syntax.specs.Reading.{toks, Reads};
+ghost use Rattle.script_grammar.specs.Sources.{toks};
+ghost use Rattle.js_syntax.specs.Reading.{Reads};
 ghost use Rattle.js_syntax.specs.Statements.{stmt_at, item_at, items_at, inner_at, block_at, test_at, else_at, arms_at, if_at, items_view};
 ghost use Rattle.js_syntax.specs.NestsItems.{NestsItems, item_rule};
 

@@ -2,7 +2,7 @@ use Rattle.std.proofs.Common.{sym, ◌∙◌}
 use Rattle.script_parser.specs.Parser.{atom, below}
 use Rattle.script_tree.specs.View.{view}
 use Rattle.js_syntax.specs.Next.{literals}
-use Rattle.js_syntax.specs.Reading.{toks}
+use Rattle.script_grammar.specs.Sources.{toks}
 use Rattle.js_syntax.proofs.Rules.{atom_other, reads_same}
 use Rattle.js_syntax.proofs.expr.Rules.word.Goals as goal
 

@@ -1,5 +1,5 @@
 use Rattle.std.proofs.Common.{◌≡◌, ◌≤◌, ◌-◌, length}
-use Rattle.js_syntax.specs.Reading.{toks}
+use Rattle.script_grammar.specs.Sources.{toks}
 use Rattle.js_syntax.specs.Statements.{onto_items, items_at}
 use Rattle.js_syntax.proofs.stmt.Statements.items.Given as goal
 
