@@ -1,5 +1,5 @@
 -- What the rules for reducers do, and that the faults of the whole are those of the grammar.
-use Rattle.std.proofs.Common.{◌≡◌, ◌≢◌, ℕ, zero, suc, ◌+◌, ◌-◌, ◌<◌, ◌≤◌, Bool, true, false, List, [], ◌∷◌, ◌++◌, length, drop, map, Option, Some, None, Ok, Err, refl, sym, ap, subst, ◌∙◌, arith, ◌⊎◌, inl, inr}
+use Rattle.std.proofs.Common.{◌≡◌, ◌≢◌, ℕ, zero, suc, ◌+◌, ◌-◌, ◌<◌, ◌≤◌, Bool, true, false, List, [], ◌∷◌, ◌++◌, length, drop, map, Option, Some, None, Ok, Err, refl, sym, ap, subst, ◌∙◌, arith, ◌⊎◌, inl, inr, add-one, drop-cons, slice_index_or}
 use Rattle.std.proofs.lemmas.List.{drop_all}
 use Rattle.script_text.specs.declared.sign.Sign.TheVariants.{OpenRound, CloseRound, OpenBrace, CloseBrace}
 use Rattle.script_text.specs.declared.word.Reserved.TheVariants as kept
@@ -20,6 +20,11 @@ use Rattle.script_tree.specs.declared.Reducer.{Reducer}
 use Rattle.script_tree.specs.View.{item_view, items_of, reducer_of, program_of}
 use Rattle.js_syntax.specs.Statements.{items_at}
 use Rattle.js_syntax.specs.Reducers.{params_at, body_at, reducer_at, reducers_at, reducers_before, onto_reducers}
+use Rattle.js_syntax.specs.declared.source.Stop.{Stop}
+use Rattle.js_syntax.specs.declared.source.Stop.TheVariants as stop
+use Rattle.js_syntax.specs.declared.fault.SyntaxFault.TheVariants as fault
+use Rattle.js_syntax.specs.Reading.{Fails}
+use Rattle.js_syntax.specs.Faults.{IsCause, fault_of}
 use Rattle.js_syntax.proofs.Rules.{within}
 use Rattle.js_syntax.proofs.Seen.{toks_here, toks_end, or_more, some_token}
 
@@ -116,7 +121,7 @@ not_both o a x h k = absurd cc
 pub only_this : (bytes : List ℕ) (tokens : List Token) (p q : Program) → Spells bytes tokens q → reducers_at levels (toks bytes tokens 0) ≡ Ok (p, []) → p ≡ q
 only_this bytes tokens p q s h = ap (λ (w : Program × Toks). w.0) (one_outcome (program levels (toks bytes tokens 0)) (p, []) (q, []) (program_read levels (toks bytes tokens 0) p h) ((exact levels (toks bytes tokens 0)).only q s))
 
-pub no_fault : (bytes : List ℕ) (tokens : List Token) (q : Program) (x : Why × Toks) → Spells bytes tokens q → reducers_at levels (toks bytes tokens 0) ≡ Err x → ⊥
+no_fault : (bytes : List ℕ) (tokens : List Token) (q : Program) (x : Why × Toks) → Spells bytes tokens q → reducers_at levels (toks bytes tokens 0) ≡ Err x → ⊥
 no_fault bytes tokens q x s h = not_both (program levels (toks bytes tokens 0)) (q, []) x ((exact levels (toks bytes tokens 0)).only q s) (program_fault levels (toks bytes tokens 0) x h)
 
 -- a place behind the last token is the last place
@@ -127,12 +132,29 @@ place bytes tokens k = go (or_more k (length tokens))
     go (inl l) = (k, omega (arith, l), refl, refl)
     go (inr m) = (length tokens, omega arith, rw (drop_all k tokens m, drop_all (length tokens) tokens (omega arith)) refl, toks_end bytes tokens k m ∙ sym (toks_end bytes tokens (length tokens) (omega arith)))
 
-pub unexpected_at : (bytes : List ℕ) (tokens : List Token) (k : ℕ) → reducers_at levels (toks bytes tokens 0) ≡ Err (Unexpected, toks bytes tokens k) → UnexpectedAt bytes tokens (offset_of bytes tokens k)
+unexpected_at : (bytes : List ℕ) (tokens : List Token) (k : ℕ) → reducers_at levels (toks bytes tokens 0) ≡ Err (Unexpected, toks bytes tokens k) → UnexpectedAt bytes tokens (offset_of bytes tokens k)
 unexpected_at bytes tokens k h =
     let p = place bytes tokens k in
     record { token = p.0; within = p.1; begins = p.2; first = subst (λ (w : Toks). Rattle.script_grammar.specs.Programs.IsUnexpected levels (toks bytes tokens 0) w) p.3 ((exact levels (toks bytes tokens 0)).unexpected (toks bytes tokens k) (program_fault levels (toks bytes tokens 0) (Unexpected, toks bytes tokens k) h)) }
 
-pub nested_at : (bytes : List ℕ) (tokens : List Token) (k : ℕ) → reducers_at levels (toks bytes tokens 0) ≡ Err (TooNested, toks bytes tokens k) → TooNestedAt bytes tokens (offset_of bytes tokens k)
+nested_at : (bytes : List ℕ) (tokens : List Token) (k : ℕ) → reducers_at levels (toks bytes tokens 0) ≡ Err (TooNested, toks bytes tokens k) → TooNestedAt bytes tokens (offset_of bytes tokens k)
 nested_at bytes tokens k h =
     let p = place bytes tokens k in
     record { token = p.0; within = p.1; begins = p.2; first = subst (λ (w : Toks). Rattle.script_grammar.specs.Programs.IsTooNested levels (toks bytes tokens 0) w) p.3 ((exact levels (toks bytes tokens 0)).nested (toks bytes tokens k) (program_fault levels (toks bytes tokens 0) (TooNested, toks bytes tokens k) h)) }
+
+-- ---- faults
+pub offset_here : (bytes : List ℕ) (tokens : List Token) (at : ℕ) (t : Token) → at < length tokens → offset_of bytes tokens at ≡ (slice_index_or tokens at t).start
+offset_here bytes tokens at t l = let e : drop at tokens ≡ slice_index_or tokens at t ∷ drop (at + 1) tokens = rw (add-one, drop-cons tokens at t) refl in rw e refl
+
+pub offset_end : (bytes : List ℕ) (tokens : List Token) (at : ℕ) → length tokens ≤ at → offset_of bytes tokens at ≡ length bytes
+offset_end bytes tokens at l = rw (drop_all at tokens l) refl
+
+pub caused : (bytes : List ℕ) (tokens : List Token) (s : Stop) → Fails bytes tokens s (reducers_at levels (toks bytes tokens 0)) → IsCause bytes tokens (fault_of bytes tokens s)
+caused bytes tokens (stop.Unexpected k) h = unexpected_at bytes tokens k h
+caused bytes tokens (stop.TooNested k) h = nested_at bytes tokens k h
+caused bytes tokens stop.Memory h = tt
+
+pub only_memory : (bytes : List ℕ) (tokens : List Token) (q : Program) (s : Stop) → Spells bytes tokens q → Fails bytes tokens s (reducers_at levels (toks bytes tokens 0)) → fault_of bytes tokens s ≡ fault.Memory
+only_memory bytes tokens q (stop.Unexpected k) p h = absurd (no_fault bytes tokens q (Unexpected, toks bytes tokens k) p h)
+only_memory bytes tokens q (stop.TooNested k) p h = absurd (no_fault bytes tokens q (TooNested, toks bytes tokens k) p h)
+only_memory bytes tokens q stop.Memory p h = refl

@@ -6,3 +6,4 @@ pub mod Values
 pub mod Statements
 pub mod NestsItems
 pub mod Reducers
+pub mod Faults
