@@ -8,7 +8,7 @@ use Rattle.script_grammar.specs.Trees.{Ex, Stmt as St, Block, Empty, IfThen, IfE
 use Rattle.script_grammar.specs.Rules.{is_open, is_member}
 use Rattle.script_parser.specs.Steps.{Outcome, Parser, and_then, ◌>>=◌, pure, fail, too_deep, first, look}
 use Rattle.script_parser.specs.Tests.{fixed, sees, sees_word, StmtForm, BlockForm, EmptyForm, IfForm, ReturnForm, ThrowForm, DeleteForm, ExprForm, stmt_form}
-use Rattle.script_parser.specs.Parser.{Below, expect, keyword, opened, post, expr, items, block, inner_by, inner, else_by, may_else, conditional, ended, return_by, thrown_error, throw_by, deleted, assign_by, may_assign, stmt_by, stmt, below}
+use Rattle.script_parser.specs.Parser.{Below, expect, keyword, opened, post, expr, items, block, inner_by, inner, else_by, may_else, conditional, ended, return_by, thrown_error, throw_by, assign_by, may_assign, stmt_by, stmt, below}
 use Rattle.script_parser.proofs.Accept.{under}
 
 -- whatever the parser reads is such, with the tokens behind it

@@ -1,9 +1,9 @@
 -- Levels that are left, and what an expression may be used for.
-use Rattle.std.proofs.Common.{◌≡◌, ◌≢◌, ℕ, zero, suc, ◌+◌, ◌-◌, Bool, true, false, List, [], ◌∷◌, Option, Some, None, Err, refl, sym, ap, ◌∙◌, map}
+use Rattle.std.proofs.Common.{◌≡◌, ◌≢◌, ℕ, zero, suc, ◌-◌, true, false, List, [], ◌∷◌, Option, Some, None, Err, refl, ◌∙◌, map}
 use Rattle.script_text.specs.declared.sign.Sign.{Sign}
 use Rattle.script_text.specs.declared.sign.Sign.TheVariants.{OpenRound}
-use Rattle.script_grammar.specs.Tokens.{Tok, Toks}
-use Rattle.script_grammar.specs.Trees.{Ex, Item}
+use Rattle.script_grammar.specs.Tokens.{Toks}
+use Rattle.script_grammar.specs.Trees.{Ex}
 use Rattle.script_grammar.specs.Rules.{is_member, is_target}
 use Rattle.script_parser.specs.Steps.{Why, Unexpected, TooNested, refused, too_deep, first}
 use Rattle.script_parser.specs.Tests.{fixed, is_some, sees}
@@ -11,8 +11,8 @@ use Rattle.script_parser.specs.Parser.{opened, thrown_error, below}
 use Rattle.script_tree.specs.declared.Expr.{Expr}
 use Rattle.script_tree.specs.declared.Expr.TheVariants as ex
 use Rattle.script_tree.specs.declared.Access.{Access}
-use Rattle.script_tree.specs.View.{view, member_of, chain_of}
-use Rattle.script_tree.proofs.Views.{view_chain, view_member, view_round, view_list, view_object, view_unary, view_choice, view_name, view_number, view_text, view_true, view_false, view_null, view_undefined}
+use Rattle.script_tree.specs.View.{view, member_of}
+use Rattle.script_tree.proofs.Views.{view_member}
 use Rattle.js_syntax.specs.Statements.{plainly, no_level, error_at}
 use Rattle.js_syntax.proofs.Rules.{within}
 use Rattle.js_syntax.proofs.Statements.{error_plain}

@@ -1,13 +1,11 @@
 -- One member of an object literal.
-use Rattle.std.proofs.Common.{◌≡◌, ℕ, ◌+◌, Bool, true, false, List, [], ◌∷◌, drop, Option, Some, None, Ok, Err, refl, sym, ap, ◌∙◌}
+use Rattle.std.proofs.Common.{◌≡◌, ℕ, ◌+◌, true, false, List, drop, Option, Some, None, Ok, Err, refl, sym}
 use Rattle.script_text.specs.declared.sign.Sign.TheVariants.{Colon}
 use Rattle.script_text.specs.declared.word.Reserved.{Reserved}
 use Rattle.script_text.specs.declared.token.Token.{Token}
 use Rattle.script_grammar.specs.Tokens.{Tok, Name, Kept, Integer, Text, Fixed, Other, Toks}
-use Rattle.script_parser.specs.Steps.{Why, Unexpected, take as read, first, look}
-use Rattle.script_parser.specs.Tests.{name_of, text_of, word_of, is_some, sees, prop_form, PropForm, NameForm, QuotedForm, WordForm}
-use Rattle.script_parser.specs.Parser.{prop, prop_by, short_by}
-use Rattle.script_parser.proofs.Accept.{under}
+use Rattle.script_parser.specs.Steps.{Why, Unexpected, take as read, first}
+use Rattle.script_parser.specs.Tests.{name_of, text_of, is_some, sees, prop_form, NameForm, QuotedForm, WordForm}
 use Rattle.script_tree.specs.declared.Name.{Name as Named}
 use Rattle.script_tree.specs.declared.Label.TheVariants as label
 use Rattle.script_tree.specs.declared.Expr.TheVariants as ex

@@ -1,23 +1,21 @@
 -- What the rules for reducers do, and that the faults of the whole are those of the grammar.
-use Rattle.std.proofs.Common.{◌≡◌, ◌≢◌, ℕ, zero, suc, ◌+◌, ◌-◌, ◌<◌, ◌≤◌, Bool, true, false, List, [], ◌∷◌, ◌++◌, length, drop, map, Option, Some, None, Ok, Err, refl, sym, ap, subst, ◌∙◌, arith, ◌⊎◌, inl, inr, add-one, drop-cons, slice_index_or}
+use Rattle.std.proofs.Common.{◌≡◌, ◌≢◌, ℕ, ◌+◌, ◌-◌, ◌<◌, ◌≤◌, List, [], ◌∷◌, ◌++◌, length, drop, Ok, Err, refl, sym, ap, subst, ◌∙◌, arith, ◌⊎◌, inl, inr, add-one, drop-cons, slice_index_or}
 use Rattle.std.proofs.lemmas.List.{drop_all}
 use Rattle.script_text.specs.declared.sign.Sign.TheVariants.{OpenRound, CloseRound, OpenBrace, CloseBrace}
 use Rattle.script_text.specs.declared.word.Reserved.TheVariants as kept
 use Rattle.script_text.specs.declared.token.Token.{Token}
-use Rattle.script_grammar.specs.Tokens.{Tok, Toks, seen_from}
-use Rattle.script_grammar.specs.Sources.{levels, toks, start_of, offset_of, Spells, UnexpectedAt, TooNestedAt}
-use Rattle.script_grammar.specs.Trees.{Items, Params, Reducer as Re, Function, Program, NoReducers, ThenReducer}
+use Rattle.script_grammar.specs.Tokens.{Toks}
+use Rattle.script_grammar.specs.Sources.{levels, toks, offset_of, Spells, UnexpectedAt, TooNestedAt}
+use Rattle.script_grammar.specs.Trees.{Items, Params, Function, Program, NoReducers, ThenReducer}
 use Rattle.script_grammar.specs.Programs.{IsProgram}
-use Rattle.script_parser.specs.Steps.{Why, Unexpected, TooNested, Outcome, Parser, and_then, ◌>>=◌, pure, take as read, first, look, finish}
+use Rattle.script_parser.specs.Steps.{Why, Unexpected, TooNested, Outcome, and_then, ◌>>=◌, pure, take as read, finish}
 use Rattle.script_parser.specs.Tests.{fixed, name_of}
 use Rattle.script_parser.specs.Parser.{Below, expect, keyword, params, items, reducer_body, reducer, reducers, below, program}
-use Rattle.script_parser.specs.Exact.{Exact}
 use Rattle.script_parser.proofs.Accept.{under}
 use Rattle.script_parser.proofs.Statements.{good_below, reducers_is}
 use Rattle.script_parser.proofs.Exact.{exact}
-use Rattle.script_tree.specs.declared.Stmt.{Stmt}
 use Rattle.script_tree.specs.declared.Reducer.{Reducer}
-use Rattle.script_tree.specs.View.{item_view, items_of, reducer_of, program_of}
+use Rattle.script_tree.specs.View.{reducer_of, program_of}
 use Rattle.js_syntax.specs.Statements.{items_at}
 use Rattle.js_syntax.specs.Reducers.{params_at, body_at, reducer_at, reducers_at, reducers_before, onto_reducers}
 use Rattle.js_syntax.specs.declared.source.Stop.{Stop}

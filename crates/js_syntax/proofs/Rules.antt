@@ -1,14 +1,13 @@
 -- What each rule for expressions does at the next token and the levels that are left.
-use Rattle.std.proofs.Common.{◌≡◌, ◌≢◌, ℕ, zero, suc, ◌+◌, ◌-◌, ◌<◌, ◌≤◌, Bool, true, false, List, [], ◌∷◌, ◌++◌, length, drop, map, Option, Some, None, Result, Ok, Err, refl, sym, ap, subst, ◌∙◌, arith, append_assoc}
-use Rattle.std.specs.Prelude.{if◌then◌else◌}
+use Rattle.std.proofs.Common.{◌≡◌, ◌≢◌, ℕ, zero, suc, ◌+◌, ◌-◌, ◌<◌, true, false, List, [], ◌∷◌, ◌++◌, map, Option, Some, None, Result, Ok, Err, refl, sym, ap, ◌∙◌, arith}
 use Rattle.script_text.specs.declared.sign.Sign.{Sign}
 use Rattle.script_text.specs.declared.sign.Sign.TheVariants.{OpenRound, OpenBrace, CloseBrace, OpenSquare, CloseSquare, Comma, Colon, Question}
 use Rattle.script_text.specs.declared.token.Token.{Token}
 use Rattle.script_grammar.specs.Tokens.{Tok, Name, Kept, Integer, Text, Fixed, Other, Toks}
 use Rattle.script_grammar.specs.Trees.{Ex, Object, Unary, Choice, Member, Links, NoLinks, ThenLink, Elems, NoElems, LastElem, ThenElem, Props, NoProps, LastProp, ThenProp, Suffixes, NoSuffixes, ThenSuffix}
-use Rattle.script_parser.specs.Steps.{Unexpected, TooNested, Outcome, Parser, and_then, ◌>>=◌, pure, take as read, too_deep, first, look, many_by, Why}
-use Rattle.script_parser.specs.Tests.{fixed, name_of, unary_of, link_of, begins_link, is_some, sees, sees_unary, atom_form, RoundForm, ListForm, ObjectForm, VarForm, OtherForm}
-use Rattle.script_parser.specs.Parser.{Below, expect, opened, comma_by, elems, props, prop, member, suffixes, choice_by, rounded, listed, objected, named, literal, atom_by, atom, index, dot, suffix, post, unary, chain, link, then_link, links, choice, expr, chained, below}
+use Rattle.script_parser.specs.Steps.{Unexpected, TooNested, Outcome, Parser, and_then, ◌>>=◌, pure, too_deep, first, look, Why}
+use Rattle.script_parser.specs.Tests.{fixed, name_of, unary_of, link_of, is_some, sees, sees_unary, atom_form, RoundForm, ListForm, ObjectForm, VarForm, OtherForm}
+use Rattle.script_parser.specs.Parser.{Below, expect, opened, comma_by, elems, member, suffixes, choice_by, rounded, listed, objected, named, atom, index, dot, suffix, post, unary, chain, then_link, choice, expr, chained, below}
 use Rattle.script_parser.proofs.Tests.{of_fixed}
 use Rattle.script_parser.proofs.Accept.{under, goods_under, chain_good}
 use Rattle.script_parser.proofs.Expressions.{elems_is, props_is, suffixes_is}

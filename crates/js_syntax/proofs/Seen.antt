@@ -1,5 +1,5 @@
 -- The next token.
-use Rattle.std.proofs.Common.{◌≡◌, ℕ, zero, suc, ◌+◌, ◌-◌, ◌<◌, ◌≤◌, Bool, true, false, List, [], ◌∷◌, length, drop, take, Option, Some, None, Ok, Err, refl, sym, ap, subst, ◌∙◌, arith, drop-cons, add-one, slice_index_or, ◌⊎◌, inl, inr}
+use Rattle.std.proofs.Common.{◌≡◌, ℕ, ◌+◌, ◌<◌, ◌≤◌, Bool, true, false, List, [], ◌∷◌, length, drop, take, Option, Some, None, Ok, Err, refl, sym, ap, ◌∙◌, arith, drop-cons, add-one, slice_index_or, ◌⊎◌}
 use Rattle.std.specs.Prelude.{if◌then◌else◌, ◌==◌, nat_lt, min}
 use Rattle.std.proofs.lemmas.List.{drop_all, drop-drop, drop_min, take_min}
 use Rattle.script_text.specs.declared.sign.Sign.{Sign}
@@ -10,15 +10,14 @@ use Rattle.script_text.specs.declared.token.Kind.{Kind}
 use Rattle.script_text.specs.declared.token.Kind.TheVariants as kind
 use Rattle.script_text.specs.Lexical.{largest}
 use Rattle.script_grammar.specs.Tokens.{Tok, Name, Kept, Integer, Text, Fixed, Other, Toks, bytes_of, text_value, as_text, seen_as, seen, seen_from}
-use Rattle.script_parser.specs.Steps.{Unexpected, Parser, taken, take as read, first}
+use Rattle.script_parser.specs.Steps.{Unexpected, taken, take as read, first}
 use Rattle.script_parser.specs.Tests.{code, fixed, kept_as, is_some, sees, sees_word, name_of, word_of, unary_of, link_of, begins_suffix, in_block, lit_of, text_of}
 use Rattle.js_syntax.specs.Next.{next_kind, is_sign, is_word, is_name, reserved_kind, first_bytes, unary_kind, link_kind, made, linked, signed, text_next, literals, lit_ex, small}
 use Rattle.script_grammar.specs.Sources.{toks}
 use Rattle.js_syntax.specs.Lists.{suffix_next}
 use Rattle.js_syntax.specs.Statements.{item_next}
 use Rattle.std.specs.Prelude.{◌||◌, not}
-use Rattle.script_grammar.specs.Trees.{Word, Named, Reserve, Lit, Number, Quote, Ex, Literal}
-use Rattle.std.proofs.lemmas.Bool.Decides.{nat_tests}
+use Rattle.script_grammar.specs.Trees.{Named, Reserve, Lit, Number, Quote, Ex, Literal}
 use Rattle.script_text.specs.declared.sign.Sign.TheVariants.{Same, NotSame, AtMost, AtLeast, And, Or, OpenRound, CloseRound, OpenBrace, CloseBrace, OpenSquare, CloseSquare, Comma, Semicolon, Colon, Dot, Question, Assign, Less, Greater, Plus, Minus, Star, Percent, Not}
 
 -- what is seen of an integer and of a text

@@ -1,16 +1,16 @@
 -- What each rule for statements does at the next token and the levels that are left.
-use Rattle.std.proofs.Common.{◌≡◌, ◌≢◌, ℕ, zero, suc, ◌+◌, ◌-◌, Bool, true, false, List, [], ◌∷◌, ◌++◌, Option, Some, None, Ok, Err, refl, sym, ap, ◌∙◌, map}
+use Rattle.std.proofs.Common.{◌≡◌, ◌≢◌, ℕ, zero, suc, ◌+◌, ◌-◌, Bool, true, false, List, [], ◌∷◌, ◌++◌, Option, Some, None, Ok, Err, refl, ap, ◌∙◌, map}
 use Rattle.std.specs.Prelude.{if◌then◌else◌}
 use Rattle.script_text.specs.declared.sign.Sign.TheVariants.{OpenRound, CloseRound, OpenBrace, CloseBrace, Semicolon, Assign}
 use Rattle.script_text.specs.declared.word.Reserved.{Reserved}
 use Rattle.script_text.specs.declared.word.Reserved.TheVariants as kept
 use Rattle.script_text.specs.declared.token.Token.{Token}
 use Rattle.script_grammar.specs.Tokens.{Tok, Name, Kept, Integer, Text, Fixed, Other, Toks}
-use Rattle.script_grammar.specs.Trees.{Ex, Stmt as St, Block, Empty, IfThen, IfElse, Return, ReturnOf, Throw, ThrowError, Delete, Set, Do, Item, Plain, Items, NoItems, ThenItem}
+use Rattle.script_grammar.specs.Trees.{Ex, Stmt as St, Empty, IfElse, Return, ReturnOf, Throw, ThrowError, Delete, Set, Do, Item, Plain, Items, NoItems, ThenItem}
 use Rattle.script_grammar.specs.Rules.{is_member}
-use Rattle.script_parser.specs.Steps.{Why, Unexpected, TooNested, Outcome, Parser, and_then, ◌>>=◌, pure, fail, too_deep, first, look}
-use Rattle.script_parser.specs.Tests.{fixed, is_some, kept_as, sees, sees_word, StmtForm, BlockForm, EmptyForm, IfForm, ReturnForm, ThrowForm, DeleteForm, ExprForm, stmt_form, ConstForm, LetForm, PlainForm, item_form}
-use Rattle.script_parser.specs.Parser.{Below, expect, keyword, opened, post, expr, items, block, inner_by, inner, else_by, may_else, conditional, ended, return_by, thrown_error, throw_by, deleted, assign_by, may_assign, stmt, item, below}
+use Rattle.script_parser.specs.Steps.{Why, TooNested, Outcome, Parser, and_then, ◌>>=◌, pure, fail, too_deep, first, look}
+use Rattle.script_parser.specs.Tests.{fixed, is_some, kept_as, sees, sees_word, StmtForm, BlockForm, EmptyForm, IfForm, ReturnForm, ThrowForm, DeleteForm, ExprForm, stmt_form, PlainForm, item_form}
+use Rattle.script_parser.specs.Parser.{Below, expect, keyword, opened, post, expr, items, block, inner, else_by, may_else, conditional, ended, return_by, thrown_error, throw_by, assign_by, may_assign, below}
 use Rattle.script_parser.proofs.Tests.{of_kept}
 use Rattle.script_parser.proofs.Accept.{under, goods_under}
 use Rattle.script_parser.proofs.Statements.{items_is}
@@ -19,9 +19,8 @@ use Rattle.script_tree.specs.declared.Stmt.TheVariants as st
 use Rattle.script_tree.specs.declared.Expr.{Expr}
 use Rattle.script_tree.specs.View.{view, item_view, items_of, if_of}
 use Rattle.script_tree.proofs.Statements.{view_empty, view_if_else}
-use Rattle.js_syntax.specs.Next.{made}
 use Rattle.script_grammar.specs.Sources.{toks}
-use Rattle.js_syntax.specs.Statements.{plainly, closed, no_level, const_at, let_at, return_by_at, return_at, error_at, throw_by_at, throw_at, deleted_at, delete_at, assign_by_at, assign_at, stmt_at, item_at, items_at, inner_at, block_at, test_at, else_at, arm_by_at, arms_at, if_at, items_before, onto_items, item_next}
+use Rattle.js_syntax.specs.Statements.{plainly, closed, no_level, const_at, let_at, return_by_at, return_at, error_at, throw_by_at, throw_at, deleted_at, delete_at, assign_by_at, assign_at, stmt_at, item_at, items_at, inner_at, block_at, else_at, arm_by_at, arms_at, if_at, items_before, onto_items, item_next}
 use Rattle.js_syntax.proofs.Seen.{sign_read, word_read}
 use Rattle.js_syntax.proofs.Rules.{seen_sign, deep, within, made_sign}
 use Rattle.js_syntax.proofs.Else.{else_is}

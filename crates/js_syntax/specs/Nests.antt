@@ -1,7 +1,6 @@
 -- A function value that reads expressions one level down.
-use Rattle.std.specs.Prelude.{ℕ, ◌<◌, ◌-◌, Bool, true, false, List, Result}
+use Rattle.std.specs.Prelude.{ℕ, ◌<◌, ◌-◌, Bool, true, false, Result}
 use Rattle.std.specs.declared.alloc.Global.{Global}
-use Rattle.script_text.specs.declared.token.Token.{Token}
 use Rattle.script_grammar.specs.Trees.{Ex}
 use Rattle.script_parser.specs.Steps.{Parser, ◌>>=◌, pure}
 use Rattle.script_text.specs.declared.sign.Sign.TheVariants.{Question, Colon}

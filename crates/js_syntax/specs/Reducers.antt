@@ -1,7 +1,7 @@
 -- The rules for reducers, as the code reads them.
 use Rattle.std.specs.Prelude.{ℕ, List, [], ◌∷◌, Option}
 use Rattle.script_text.specs.declared.sign.Sign.TheVariants.{OpenRound, CloseRound, OpenBrace, CloseBrace}
-use Rattle.script_grammar.specs.Trees.{Items, Params, Reducer as Re, Program, NoReducers, ThenReducer}
+use Rattle.script_grammar.specs.Trees.{Items, Params, Reducer as Re, Program, ThenReducer}
 use Rattle.script_parser.specs.Steps.{Outcome, Parser, ◌>>=◌, and_then, pure}
 use Rattle.script_parser.specs.Parser.{expect, params, reducer, reducers, below}
 use Rattle.script_tree.specs.declared.Name.{Name}

@@ -1,18 +1,17 @@
 -- The rules for statements, as the code reads them: each gives an item, and each is at a number of levels.
-use Rattle.std.specs.Prelude.{ℕ, Bool, true, false, Option, Some, None, List, [], ◌∷◌, ◌++◌}
+use Rattle.std.specs.Prelude.{ℕ, Bool, true, false, Option, Some, None, List, [], ◌∷◌}
 use Rattle.script_text.specs.declared.sign.Sign.{Sign}
 use Rattle.script_text.specs.declared.sign.Sign.TheVariants.{OpenRound, CloseRound, OpenBrace, CloseBrace, Semicolon, Assign}
 use Rattle.script_text.specs.declared.word.Reserved.TheVariants as kept
 use Rattle.script_grammar.specs.Tokens.{Tok}
-use Rattle.script_grammar.specs.Trees.{Ex, Stmt as St, Block, Empty, Return, ReturnOf, Throw, ThrowError, Delete, Set, Do, Item, Const, Let, LetBe, Plain, Items, NoItems, ThenItem}
+use Rattle.script_grammar.specs.Trees.{Ex, Stmt as St, Block, Return, ReturnOf, Throw, ThrowError, Delete, Set, Do, Item, Const, Let, LetBe, Plain, Items, NoItems, ThenItem}
 use Rattle.script_grammar.specs.Rules.{is_member}
 use Rattle.script_parser.specs.Steps.{Outcome, Parser, ◌>>=◌, and_then, pure, fail, take, too_deep, look}
 use Rattle.script_parser.specs.Tests.{fixed, name_of, sees, sees_word, in_block}
-use Rattle.script_parser.specs.Parser.{Below, expect, keyword, opened, post, expr, stmt, item, items, block, inner, conditional, may_assign, thrown_error, below}
+use Rattle.script_parser.specs.Parser.{expect, keyword, opened, post, expr, stmt, item, items, inner, may_assign, thrown_error, below}
 use Rattle.script_parser.proofs.Accept.{under}
 use Rattle.script_tree.specs.declared.Stmt.{Stmt}
-use Rattle.script_tree.specs.declared.Expr.{Expr}
-use Rattle.script_tree.specs.View.{view, item_view, items_of, if_of}
+use Rattle.script_tree.specs.View.{item_view, if_of}
 
 -- a statement as an item
 abbrev pub plainly : Parser St → Parser Item

@@ -457,7 +457,12 @@ pub(crate) fn read(
 }
 
 /// An atom with its members, with so many levels left.
-pub(crate) fn read_post(alloc: Global, source: Source<'_>, at: usize, depth: usize) -> Result<(Expr, usize), Stop>
+pub(crate) fn read_post(
+    alloc: Global,
+    source: Source<'_>,
+    at: usize,
+    depth: usize,
+) -> Result<(Expr, usize), Stop>
     ensures is { Reads view (post_rule (below depth)) source.entry.bytes.now source.entry.tokens.now at result }
     ensures forward { Forward at result }
 {

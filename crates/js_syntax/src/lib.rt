@@ -17,7 +17,6 @@ mod stmt;
 mod text;
 
 pub use fault::SyntaxFault;
-
 use js_lex::Tokens;
 use level::Level;
 use script_tree::Reducer;
@@ -35,7 +34,11 @@ const LEVELS: usize = 64;
 /// The source is what the tokens were cut from. A name, an integer or a text is read from the bytes between its
 /// token's places, so other bytes there are another program.
 #[tactic(auto, using(crate::proofs::Reducers::spells, crate::proofs::Reducers::only_this, crate::proofs::Reducers::caused, crate::proofs::Reducers::only_memory))]
-pub fn read_program(alloc: Global, source: &[u8], tokens: &Tokens) -> Result<Items<Reducer>, SyntaxFault>
+pub fn read_program(
+    alloc: Global,
+    source: &[u8],
+    tokens: &Tokens,
+) -> Result<Items<Reducer>, SyntaxFault>
     ensures spells { IfOk result (λ rs. Spells source.now tokens.now (program_of rs)) }
     ensures only { (p : Program) → Spells source.now tokens.now p → MatchResult result (λ rs. program_of rs ≡ p) (λ f. f ≡ fault.Memory) }
     ensures fault { IfErr result (λ f. IsCause source.now tokens.now f) }

@@ -27,7 +27,10 @@ pub(crate) struct Statements<'a, F> {
     pub read: F,
 }
 
-impl<F: Fn(Global, Source<'_>, usize, usize, bool) -> Result<(Stmt, usize), Stop>> Statements<'_, F> {
+impl<F: Fn(Global, Source<'_>, usize, usize, bool) -> Result<(Stmt, usize), Stop>> Statements<
+    '_,
+    F,
+> {
     /// What stands one level down.
     fn nested(&self, at: usize, declares: bool) -> Result<(Stmt, usize), Stop>
         requires left { 0 < self.now.level.depth }
@@ -228,7 +231,13 @@ impl<F: Fn(Global, Source<'_>, usize, usize, bool) -> Result<(Stmt, usize), Stop
 }
 
 /// A statement or a declaration, or a statement alone, with so many levels left.
-pub(crate) fn read_item(alloc: Global, source: Source<'_>, at: usize, depth: usize, declares: bool) -> Result<(Stmt, usize), Stop>
+pub(crate) fn read_item(
+    alloc: Global,
+    source: Source<'_>,
+    at: usize,
+    depth: usize,
+    declares: bool,
+) -> Result<(Stmt, usize), Stop>
     ensures is { Reads item_view (item_rule depth declares) source.entry.bytes.now source.entry.tokens.now at result }
     ensures forward { IfOk result (λ x. at < x.1) }
 {

@@ -1,4 +1,4 @@
-use Rattle.std.proofs.Common.{◌≡◌, sym, ◌∙◌, ap, subst, List, ℕ}
+use Rattle.std.proofs.Common.{sym, ◌∙◌, ap, subst, List, ℕ}
 use Rattle.std.specs.Prelude.{Some, Err, ◌<◌, length}
 use Rattle.script_text.specs.Lexical.{longest_text}
 use Rattle.js_syntax.proofs.Values.{not_utf8, of_utf8, too_long}

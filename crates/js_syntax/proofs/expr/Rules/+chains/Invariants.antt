@@ -1,8 +1,6 @@
 use Rattle.std.proofs.Common.{◌≡◌, ◌≤◌, ◌-◌, ◌+◌, ◌*◌, length}
-use Rattle.script_parser.specs.Parser.{below, chain, links, suffixes, elems, props}
-use Rattle.script_parser.proofs.Accept.{under}
 use Rattle.script_grammar.specs.Sources.{toks}
-use Rattle.js_syntax.specs.Lists.{onto_links, onto_suffixes, onto_elems, onto_props, links_at}
+use Rattle.js_syntax.specs.Lists.{onto_links, links_at}
 use Rattle.js_syntax.proofs.expr.Rules.+chains.Given as goal
 
 abbrev pub decreases-chain : goal.decreases-chain

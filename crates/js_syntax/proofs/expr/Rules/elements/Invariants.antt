@@ -1,8 +1,8 @@
-use Rattle.std.proofs.Common.{◌≡◌, ◌≤◌, ◌-◌, ◌+◌, ◌*◌, length}
-use Rattle.script_parser.specs.Parser.{below, chain, links, suffixes, elems, props}
+use Rattle.std.proofs.Common.{◌≡◌, ◌≤◌, ◌-◌, length}
+use Rattle.script_parser.specs.Parser.{elems}
 use Rattle.script_parser.proofs.Accept.{under}
 use Rattle.script_grammar.specs.Sources.{toks}
-use Rattle.js_syntax.specs.Lists.{onto_links, onto_suffixes, onto_elems, onto_props}
+use Rattle.js_syntax.specs.Lists.{onto_elems}
 use Rattle.js_syntax.proofs.expr.Rules.elements.Given as goal
 
 abbrev pub invariant-more : goal.invariant-more

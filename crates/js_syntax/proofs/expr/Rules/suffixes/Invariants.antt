@@ -1,8 +1,7 @@
-use Rattle.std.proofs.Common.{◌≡◌, ◌≤◌, ◌-◌, ◌+◌, ◌*◌, length}
-use Rattle.script_parser.specs.Parser.{below, chain, links, suffixes, elems, props}
-use Rattle.script_parser.proofs.Accept.{under}
+use Rattle.std.proofs.Common.{◌≡◌, ◌≤◌, ◌-◌, length}
+use Rattle.script_parser.specs.Parser.{below, suffixes}
 use Rattle.script_grammar.specs.Sources.{toks}
-use Rattle.js_syntax.specs.Lists.{onto_links, onto_suffixes, onto_elems, onto_props}
+use Rattle.js_syntax.specs.Lists.{onto_suffixes}
 use Rattle.js_syntax.proofs.expr.Rules.suffixes.Given as goal
 
 abbrev pub invariant-more : goal.invariant-more
