@@ -1,8 +1,12 @@
 //! How tokens are read as a program.
 
-ghost use Rattle.std.specs.Prelude.{◌≡◌};
+ghost use Rattle.std.specs.Prelude.{◌≡◌, ℕ, List, MatchResult, IfOk, IfErr, Ok};
 ghost use Rattle.script_tree.specs.View.{program_of};
+ghost use Rattle.script_grammar.specs.Trees.{Program as Tree};
 ghost use Rattle.script_grammar.specs.Sources.{Spells, offset_of};
+ghost use Rattle.script_names.specs.Names.{names_of};
+ghost use Rattle.script_names.specs.Scripts.{IsScript};
+ghost use Rattle.js_parse.specs.declared.fault.ParseFault.TheVariants as fault;
 ghost use Rattle.js_parse.specs.Parsing.{Parses};
 
 use crate::fault::ParseFault;
@@ -19,7 +23,8 @@ use std::alloc::Global;
 /// opens more than 64 levels, and `Unexpected` at the first token with which they begin no program, the earlier of the
 /// two; and otherwise the first fault of a name.
 pub fn parse(alloc: Global, source: &[u8], tokens: &Tokens) -> Result<Program, ParseFault>
-    ensures { Parses source.now tokens.now result }
+    ensures parses { Parses source.now tokens.now result }
+    ensures only { (p : Tree) (found : List (List (ℕ × ℕ))) → IsScript source.now tokens.now p found → MatchResult result (λ r. program_of r.reducers ≡ p) (λ f. f ≡ fault.Memory) }
 {
     match read_program(alloc, source, tokens) {
         Ok(reducers) => named(alloc, source, tokens, reducers),
@@ -36,7 +41,9 @@ fn named(
     tokens: &Tokens,
     reducers: Items<Reducer>,
 ) -> Result<Program, ParseFault>
-    ensures { Spells source.now tokens.now (program_of reducers) → Parses source.now tokens.now result }
+    ensures parses { Spells source.now tokens.now (program_of reducers) → Parses source.now tokens.now result }
+    ensures tree { IfOk result (λ r. r.reducers ≡ reducers) }
+    ensures only { (found : List (List (ℕ × ℕ))) → names_of (program_of reducers) ≡ Ok found → IfErr result (λ f. f ≡ fault.Memory) }
 {
     match resolve(alloc, reducers.as_slice()) {
         Ok(names) => Ok(Program { reducers, names }),

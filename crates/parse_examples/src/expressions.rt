@@ -55,9 +55,7 @@ impl Shape<'_> {
     /// An expression that holds no other.
     fn literal(&mut self, e: &Expr) -> Result<(), AllocError> {
         match e {
-            Expr::Number(n) => {
-                self.number(n.get())
-            }
+            Expr::Number(n) => { self.number(n.get()) }
             Expr::Text(text) => {
                 self.text("'")?;
                 self.bytes(text.as_str().as_bytes())?;

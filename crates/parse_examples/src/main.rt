@@ -14,7 +14,12 @@ mod statements;
 use shape::Shape;
 
 /// The reducers, each with the number under which its name is found.
-fn shape_of(alloc: Global, source: &[u8], tokens: &Tokens, program: &Program) -> Result<String, AllocError> {
+fn shape_of(
+    alloc: Global,
+    source: &[u8],
+    tokens: &Tokens,
+    program: &Program,
+) -> Result<String, AllocError> {
     let mut shape = Shape::new(alloc, source, tokens.as_slice());
     for (number, reducer) in program.reducers.as_slice().iter().enumerate() {
         if number > 0 {

@@ -18,7 +18,9 @@ fn push_reducer(alloc: Global, out: &mut String, number: u32) -> Result<(), Allo
     out.push_str("{\n  const item = state.list[action.index % 50]; // the one that is meant\n")?;
     out.push_str("  if (item === undefined || !item.on) { throw new Error(\"none\"); }\n")?;
     out.push_str("  let next = {id: item.id + 1, \"name\": item.name, tags: [1, 2, state.n]};\n")?;
-    out.push_str("  if (action.n > 10 && action.n <= 20) { state.n = state.n + action.n * 2; } else next.on = false;\n")?;
+    out.push_str(
+        "  if (action.n > 10 && action.n <= 20) { state.n = state.n + action.n * 2; } else next.on = false;\n",
+    )?;
     out.push_str("  state.list[action.index % 50] = next.id > 100 ? item : next;\n")?;
     out.push_str("  delete state.last;\n  return state;\n}\n")
 }
@@ -49,7 +51,11 @@ fn main(rt: HostRuntime) -> anyhow::Result<()> {
     let Some(word) = env::args(&rt)?.nth(1) else {
         let source = sample(alloc, 1 << 16)?;
         let program = read(alloc, source.as_bytes())?;
-        println!(rt; "{} bytes, {} reducers", source.len(), program.reducers.len())?;
+        println!(rt;
+            "{} bytes, {} reducers",
+            source.len(),
+            program.reducers.len()
+        )?;
         return Ok(());
     };
     let rounds = word.parse::<u32>()?;
