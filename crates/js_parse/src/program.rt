@@ -6,6 +6,7 @@ ghost use Rattle.script_names.specs.Names.{reducer_named};
 ghost use Rattle.js_names.specs.Index.{number_in};
 
 use js_names::Names;
+use js_slots::Slots;
 use script_tree::Reducer;
 use sqlite_items::Items;
 
@@ -14,6 +15,8 @@ use sqlite_items::Items;
 pub struct Program {
     pub reducers: Items<Reducer>,
     pub names: Names,
+    /// For each reducer the numbers of its variables.
+    pub slots: Items<Slots>,
     pub ghost indexed: { (x : List ℕ) → number_in names.index x ≡ reducer_named x (program_of reducers) },
 }
 

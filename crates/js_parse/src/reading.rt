@@ -4,7 +4,9 @@ ghost use Rattle.std.specs.Prelude.{◌≡◌, ℕ, List, MatchResult, IfOk, IfE
 ghost use Rattle.script_tree.specs.View.{program_of};
 ghost use Rattle.script_grammar.specs.Trees.{Program as Tree};
 ghost use Rattle.script_grammar.specs.Sources.{Spells, offset_of};
-ghost use Rattle.script_names.specs.Names.{names_of};
+ghost use Rattle.script_names.specs.Names.{names_of, reducer_named};
+ghost use Rattle.js_names.specs.Index.{number_in};
+ghost use Rattle.js_slots.specs.Numbers.{HaveSlots};
 ghost use Rattle.script_names.specs.Scripts.{IsScript};
 ghost use Rattle.js_parse.specs.declared.fault.ParseFault.TheVariants as fault;
 ghost use Rattle.js_parse.specs.Parsing.{Parses};
@@ -12,7 +14,8 @@ ghost use Rattle.js_parse.specs.Parsing.{Parses};
 use crate::fault::ParseFault;
 use crate::program::Program;
 use js_lex::Tokens;
-use js_names::{NameFault, resolve};
+use js_names::{NameFault, Names, resolve};
+use js_slots::number;
 use js_syntax::{SyntaxFault, read_program};
 use script_text::Token;
 use script_tree::Reducer;
@@ -24,6 +27,7 @@ use std::alloc::Global;
 /// two; and otherwise the first fault of a name.
 pub fn parse(alloc: Global, source: &[u8], tokens: &Tokens) -> Result<Program, ParseFault>
     ensures parses { Parses source.now tokens.now result }
+    ensures slots { IfOk result (λ r. HaveSlots r.names.found r.slots) }
     ensures only { (p : Tree) (found : List (List (ℕ × ℕ))) → IsScript source.now tokens.now p found → MatchResult result (λ r. program_of r.reducers ≡ p) (λ f. f ≡ fault.Memory) }
 {
     match read_program(alloc, source, tokens) {
@@ -42,17 +46,33 @@ fn named(
     reducers: Items<Reducer>,
 ) -> Result<Program, ParseFault>
     ensures parses { Spells source.now tokens.now (program_of reducers) → Parses source.now tokens.now result }
+    ensures slots { IfOk result (λ r. HaveSlots r.names.found r.slots) }
     ensures tree { IfOk result (λ r. r.reducers ≡ reducers) }
     ensures only { (found : List (List (ℕ × ℕ))) → names_of (program_of reducers) ≡ Ok found → IfErr result (λ f. f ≡ fault.Memory) }
 {
     match resolve(alloc, reducers.as_slice()) {
-        Ok(names) => Ok(Program { reducers, names }),
+        Ok(names) => numbered(alloc, reducers, names),
         Err(NameFault::Wrong(cause, token)) => {
             let at = offset_of(source, tokens.as_slice(), token);
             Err(ParseFault::of_name(cause, at))
         }
         Err(NameFault::Memory) => Err(ParseFault::Memory),
     }
+}
+
+/// The program of these reducers with these names, its variables numbered.
+fn numbered(alloc: Global, reducers: Items<Reducer>, names: Names) -> Result<Program, ParseFault>
+    requires { (x : List ℕ) → number_in names.index x ≡ reducer_named x (program_of reducers) }
+    ensures ok { IfOk result (λ r. (r.reducers ≡ reducers) × (r.names.found ≡ names.found)) }
+    ensures slots { IfOk result (λ r. HaveSlots r.names.found r.slots) }
+    ensures only { IfErr result (λ f. f ≡ fault.Memory) }
+{
+    let slots = number(alloc, names.found.as_slice())?;
+    Ok(Program {
+        reducers,
+        names,
+        slots,
+    })
 }
 
 /// Where the token of this number begins; behind the last one, the length of the source.
