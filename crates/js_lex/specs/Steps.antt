@@ -1,13 +1,11 @@
 -- How the code counts a text.
-use Rattle.std.specs.Prelude.{◌≡◌, ℕ, ◌+◌, ◌<◌, ◌≤◌, if◌then◌else◌, List, ◌++◌, length, Result, Ok, Err, Option, Some, None, nat_lt, ◌⊎◌}
+use Rattle.std.specs.Prelude.{ℕ, ◌+◌, ◌<◌, ◌≤◌, if◌then◌else◌, List, ◌++◌, length, Result, Ok, Err, Option, Some, None, nat_lt}
 use Rattle.script_text.specs.Lexical.{longest_text}
 use Rattle.script_text.specs.declared.token.Piece.{Piece}
 use Rattle.script_text.specs.declared.token.Token.{Token}
 use Rattle.script_text.specs.declared.token.LexFault.{LexFault}
 use Rattle.script_text.specs.declared.token.Piece.TheVariants as piece
 use Rattle.script_text.specs.Texts.{Found, Step, Closed, Refused, Adds, HexWithin}
-use Rattle.script_text.specs.declared.token.Inside.{Inside}
-use Rattle.script_text.specs.declared.token.Inside.TheVariants.{Plain}
 use Rattle.js_lex.specs.declared.text.Step.{Step as Counted}
 use Rattle.js_lex.specs.declared.text.Step.TheVariants as counted
 
