@@ -1,10 +1,11 @@
 -- What the rules for reducers do, and that the faults of the whole are those of the grammar.
-use Rattle.std.proofs.Common.{◌≡◌, ◌≢◌, ℕ, ◌+◌, ◌-◌, ◌<◌, ◌≤◌, List, [], ◌∷◌, ◌++◌, length, drop, Ok, Err, refl, sym, ap, subst, ◌∙◌, arith, ◌⊎◌, inl, inr, add-one, drop-cons, slice_index_or}
+use Rattle.std.proofs.Common.{suc, ◌≡◌, ◌≢◌, ℕ, ◌+◌, ◌-◌, ◌<◌, ◌≤◌, List, [], ◌∷◌, ◌++◌, length, drop, Ok, Err, refl, sym, ap, subst, ◌∙◌, arith, ◌⊎◌, inl, inr, add-one, drop-cons, slice_index_or}
 use Rattle.std.proofs.lemmas.List.{drop_all}
+use Rattle.std.proofs.Common.{length-drop}
 use Rattle.script_text.specs.declared.sign.Sign.TheVariants.{OpenRound, CloseRound, OpenBrace, CloseBrace}
 use Rattle.script_text.specs.declared.word.Reserved.TheVariants as kept
 use Rattle.script_text.specs.declared.token.Token.{Token}
-use Rattle.script_grammar.specs.Tokens.{Toks}
+use Rattle.script_grammar.specs.Tokens.{Toks, seen_from}
 use Rattle.script_grammar.specs.Sources.{levels, toks, offset_of, Spells, UnexpectedAt, TooNestedAt}
 use Rattle.script_grammar.specs.Trees.{Items, Params, Function, Program, NoReducers, ThenReducer}
 use Rattle.script_grammar.specs.Programs.{IsProgram}
@@ -20,6 +21,7 @@ use Rattle.js_syntax.specs.Statements.{items_at}
 use Rattle.js_syntax.specs.Reducers.{params_at, body_at, reducer_at, reducers_at, reducers_before, onto_reducers}
 use Rattle.js_syntax.specs.declared.source.Stop.{Stop}
 use Rattle.js_syntax.specs.declared.source.Stop.TheVariants as stop
+use Rattle.js_syntax.specs.declared.fault.SyntaxFault.{SyntaxFault}
 use Rattle.js_syntax.specs.declared.fault.SyntaxFault.TheVariants as fault
 use Rattle.js_syntax.specs.Reading.{Fails}
 use Rattle.js_syntax.specs.Faults.{IsCause, fault_of}
@@ -151,6 +153,47 @@ pub caused : (bytes : List ℕ) (tokens : List Token) (s : Stop) → Fails bytes
 caused bytes tokens (stop.Unexpected k) h = unexpected_at bytes tokens k h
 caused bytes tokens (stop.TooNested k) h = nested_at bytes tokens k h
 caused bytes tokens stop.Memory h = tt
+
+-- a place is told by the tokens from it on
+toks_length : (bytes : List ℕ) (k : ℕ) (ts : List Token) → length (seen_from bytes k ts) ≡ length ts
+unfolding seen_from
+toks_length bytes k [] = refl
+toks_length bytes k (t ∷ ts) = ap suc (toks_length bytes (k + 1) ts)
+
+same_place : (bytes : List ℕ) (tokens : List Token) (j k : ℕ) → j ≤ length tokens → toks bytes tokens j ≡ toks bytes tokens k → offset_of bytes tokens j ≡ offset_of bytes tokens k
+same_place bytes tokens j k l e =
+    let p = place bytes tokens k in
+    let sizes : length (drop j tokens) ≡ length (drop p.0 tokens) = sym (toks_length bytes j (drop j tokens)) ∙ ap (λ (w : Toks). length w) (e ∙ p.3) ∙ toks_length bytes p.0 (drop p.0 tokens) in
+    let same : j ≡ p.0 = omega (arith, l, p.1, sizes, length-drop j tokens, length-drop p.0 tokens) in
+    ap (λ (i : ℕ). offset_of bytes tokens i) same ∙ sym p.2
+
+one_fault : (o : Outcome Program) (x y : Why × Toks) → o ≡ Err x → o ≡ Err y → x ≡ y
+one_fault o x y h k = cc
+
+apart : Unexpected ≡ TooNested → ⊥
+apart e = cc
+
+pub fault_none : (bytes : List ℕ) (tokens : List Token) (p : Program) (f : SyntaxFault) → f ≢ fault.Memory → IsCause bytes tokens f → reducers_at levels (toks bytes tokens 0) ≡ Ok (p, []) → ⊥
+fault_none bytes tokens p (fault.Unexpected at) n f h = not_both (program levels (toks bytes tokens 0)) (p, []) (Unexpected, toks bytes tokens f.token) (program_read levels (toks bytes tokens 0) p h) ((exact levels (toks bytes tokens 0)).unexpected_only (toks bytes tokens f.token) f.first)
+fault_none bytes tokens p (fault.TooNested at) n f h = not_both (program levels (toks bytes tokens 0)) (p, []) (TooNested, toks bytes tokens f.token) (program_read levels (toks bytes tokens 0) p h) ((exact levels (toks bytes tokens 0)).nested_only (toks bytes tokens f.token) f.first)
+fault_none bytes tokens p fault.Memory n f h = n refl
+
+pub fault_same : (bytes : List ℕ) (tokens : List Token) (s : Stop) (f : SyntaxFault) → f ≢ fault.Memory → IsCause bytes tokens f → Fails bytes tokens s (reducers_at levels (toks bytes tokens 0)) → fault_of bytes tokens s ≢ fault.Memory → fault_of bytes tokens s ≡ f
+fault_same bytes tokens s fault.Memory n f h m = absurd (n refl)
+fault_same bytes tokens stop.Memory (fault.Unexpected at) n f h m = absurd (m refl)
+fault_same bytes tokens stop.Memory (fault.TooNested at) n f h m = absurd (m refl)
+fault_same bytes tokens (stop.Unexpected k) (fault.Unexpected at) n f h m =
+    let e = one_fault (program levels (toks bytes tokens 0)) (Unexpected, toks bytes tokens f.token) (Unexpected, toks bytes tokens k) ((exact levels (toks bytes tokens 0)).unexpected_only (toks bytes tokens f.token) f.first) (program_fault levels (toks bytes tokens 0) (Unexpected, toks bytes tokens k) h) in
+    ap fault.Unexpected (sym (f.begins ∙ same_place bytes tokens f.token k f.within (ap (λ (w : Why × Toks). w.1) e)))
+fault_same bytes tokens (stop.TooNested k) (fault.TooNested at) n f h m =
+    let e = one_fault (program levels (toks bytes tokens 0)) (TooNested, toks bytes tokens f.token) (TooNested, toks bytes tokens k) ((exact levels (toks bytes tokens 0)).nested_only (toks bytes tokens f.token) f.first) (program_fault levels (toks bytes tokens 0) (TooNested, toks bytes tokens k) h) in
+    ap fault.TooNested (sym (f.begins ∙ same_place bytes tokens f.token k f.within (ap (λ (w : Why × Toks). w.1) e)))
+fault_same bytes tokens (stop.TooNested k) (fault.Unexpected at) n f h m =
+    let e = one_fault (program levels (toks bytes tokens 0)) (Unexpected, toks bytes tokens f.token) (TooNested, toks bytes tokens k) ((exact levels (toks bytes tokens 0)).unexpected_only (toks bytes tokens f.token) f.first) (program_fault levels (toks bytes tokens 0) (TooNested, toks bytes tokens k) h) in
+    absurd (apart (ap (λ (w : Why × Toks). w.0) e))
+fault_same bytes tokens (stop.Unexpected k) (fault.TooNested at) n f h m =
+    let e = one_fault (program levels (toks bytes tokens 0)) (TooNested, toks bytes tokens f.token) (Unexpected, toks bytes tokens k) ((exact levels (toks bytes tokens 0)).nested_only (toks bytes tokens f.token) f.first) (program_fault levels (toks bytes tokens 0) (Unexpected, toks bytes tokens k) h) in
+    absurd (apart (sym (ap (λ (w : Why × Toks). w.0) e)))
 
 pub only_memory : (bytes : List ℕ) (tokens : List Token) (q : Program) (s : Stop) → Spells bytes tokens q → Fails bytes tokens s (reducers_at levels (toks bytes tokens 0)) → fault_of bytes tokens s ≡ fault.Memory
 only_memory bytes tokens q (stop.Unexpected k) p h = absurd (no_fault bytes tokens q (Unexpected, toks bytes tokens k) p h)

@@ -1,11 +1,12 @@
 //! The program that the tokens of a script spell.
 #![tactic(auto)]
 
-ghost use Rattle.std.specs.Prelude.{◌≡◌, IfOk, IfErr, MatchResult};
+ghost use Rattle.std.specs.Prelude.{◌≡◌, ◌≢◌, IfOk, IfErr, MatchResult};
 ghost use Rattle.script_grammar.specs.Sources.{Spells};
 ghost use Rattle.script_grammar.specs.Trees.{Program};
 ghost use Rattle.script_tree.specs.View.{program_of};
 ghost use Rattle.js_syntax.specs.Faults.{IsCause};
+ghost use Rattle.js_syntax.specs.declared.fault.SyntaxFault.{SyntaxFault};
 ghost use Rattle.js_syntax.specs.declared.fault.SyntaxFault.TheVariants as fault;
 
 mod expr;
@@ -33,7 +34,7 @@ const LEVELS: usize = 64;
 ///
 /// The source is what the tokens were cut from. A name, an integer or a text is read from the bytes between its
 /// token's places, so other bytes there are another program.
-#[tactic(auto, using(crate::proofs::Reducers::spells, crate::proofs::Reducers::only_this, crate::proofs::Reducers::caused, crate::proofs::Reducers::only_memory))]
+#[tactic(auto, using(crate::proofs::Reducers::only_this, crate::proofs::Reducers::only_memory, crate::proofs::Reducers::caused, crate::proofs::Reducers::fault_none, crate::proofs::Reducers::fault_same))]
 pub fn read_program(
     alloc: Global,
     source: &[u8],
@@ -42,6 +43,7 @@ pub fn read_program(
     ensures spells { IfOk result (λ rs. Spells source.now tokens.now (program_of rs)) }
     ensures only { (p : Program) → Spells source.now tokens.now p → MatchResult result (λ rs. program_of rs ≡ p) (λ f. f ≡ fault.Memory) }
     ensures fault { IfErr result (λ f. IsCause source.now tokens.now f) }
+    ensures no_other { (f : SyntaxFault) → f ≢ fault.Memory → IsCause source.now tokens.now f → MatchResult result (λ rs. ⊥) (λ g. g ≢ fault.Memory → g ≡ f) }
 {
     let level = Level {
         alloc,

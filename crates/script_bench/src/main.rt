@@ -84,7 +84,9 @@ fn main(rt: HostRuntime) -> anyhow::Result<()> {
         let tokens = lex(alloc, &bytes).ok().context("the source has tokens")?;
         let to_lex = millis(start.elapsed(&rt)?);
         let start = Instant::now(&rt)?;
-        let program = read_program(alloc, &bytes, &tokens).ok().context("the tokens are a program")?;
+        let program = read_program(alloc, &bytes, &tokens)
+            .ok()
+            .context("the tokens are a program")?;
         let to_read = millis(start.elapsed(&rt)?);
         let name = shape.name;
         let reducers = program.len();
@@ -92,7 +94,9 @@ fn main(rt: HostRuntime) -> anyhow::Result<()> {
         if size == 0 {
             println!(rt; "{name}: {reducers} reducers in {count} tokens")?;
         } else {
-            println!(rt; "{name}: {reducers} reducers in {count} tokens: {to_lex} ms and {to_read} ms")?;
+            println!(rt;
+                "{name}: {reducers} reducers in {count} tokens: {to_lex} ms and {to_read} ms"
+            )?;
         }
     }
     Ok(())
