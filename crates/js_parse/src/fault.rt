@@ -1,5 +1,6 @@
 //! Why tokens are no program.
 
+use js_syntax::SyntaxFault;
 use script_names::Cause;
 use std::alloc::{AllocError, AllocFailed};
 use thiserror::Error;
@@ -23,7 +24,18 @@ pub enum ParseFault {
 
 impl ParseFault {
     ghost use Rattle.std.specs.Prelude.{◌≡◌};
-    ghost use Rattle.js_parse.specs.Causes.{fault_of};
+    ghost use Rattle.js_parse.specs.Causes.{fault_of, syntax_fault};
+
+    /// The same fault of the grammar.
+    pub(crate) fn of_syntax(fault: SyntaxFault) -> ParseFault
+        ensures { result ≡ syntax_fault fault }
+    {
+        match fault {
+            SyntaxFault::Unexpected(at) => ParseFault::Unexpected(at),
+            SyntaxFault::TooNested(at) => ParseFault::TooNested(at),
+            SyntaxFault::Memory => ParseFault::Memory,
+        }
+    }
 
     /// What is wrong with the name that begins here.
     pub(crate) fn of_name(cause: Cause, at: usize) -> ParseFault

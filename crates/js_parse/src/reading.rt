@@ -1,6 +1,6 @@
 //! How tokens are read as a program.
 
-ghost use Rattle.std.specs.Prelude.{◌≡◌, ℕ, List, MatchResult, IfOk, IfErr, Ok};
+ghost use Rattle.std.specs.Prelude.{◌≡◌, ◌≢◌, ℕ, List, MatchResult, IfOk, IfErr, Ok, Err};
 ghost use Rattle.script_tree.specs.View.{program_of};
 ghost use Rattle.script_grammar.specs.Trees.{Program as Tree};
 ghost use Rattle.script_grammar.specs.Sources.{Spells, offset_of};
@@ -8,15 +8,18 @@ ghost use Rattle.script_names.specs.Names.{names_of, reducer_named};
 ghost use Rattle.js_names.specs.Index.{number_in};
 ghost use Rattle.js_slots.specs.Numbers.{HaveSlots};
 ghost use Rattle.script_names.specs.Scripts.{IsScript};
+ghost use Rattle.script_names.specs.declared.Cause.{Cause};
+ghost use Rattle.js_parse.specs.Causes.{fault_of};
+ghost use Rattle.js_parse.specs.declared.fault.ParseFault.{ParseFault};
 ghost use Rattle.js_parse.specs.declared.fault.ParseFault.TheVariants as fault;
-ghost use Rattle.js_parse.specs.Parsing.{Parses};
+ghost use Rattle.js_parse.specs.Parsing.{IsFault, Parses, Answers};
 
 use crate::fault::ParseFault;
 use crate::program::Program;
 use js_lex::Tokens;
 use js_names::{NameFault, Names, resolve};
 use js_slots::number;
-use js_syntax::{SyntaxFault, read_program};
+use js_syntax::read_program;
 use script_text::Token;
 use script_tree::Reducer;
 use sqlite_items::Items;
@@ -29,12 +32,11 @@ pub fn parse(alloc: Global, source: &[u8], tokens: &Tokens) -> Result<Program, P
     ensures parses { Parses source.now tokens.now result }
     ensures slots { IfOk result (λ r. HaveSlots r.names.found r.slots) }
     ensures only { (p : Tree) (found : List (List (ℕ × ℕ))) → IsScript source.now tokens.now p found → MatchResult result (λ r. program_of r.reducers ≡ p) (λ f. f ≡ fault.Memory) }
+    ensures no_other { (f : ParseFault) → f ≢ fault.Memory → IsFault source.now tokens.now f → Answers result f }
 {
     match read_program(alloc, source, tokens) {
         Ok(reducers) => named(alloc, source, tokens, reducers),
-        Err(SyntaxFault::Unexpected(at)) => Err(ParseFault::Unexpected(at)),
-        Err(SyntaxFault::TooNested(at)) => Err(ParseFault::TooNested(at)),
-        Err(SyntaxFault::Memory) => Err(ParseFault::Memory),
+        Err(fault) => Err(ParseFault::of_syntax(fault)),
     }
 }
 
@@ -48,6 +50,7 @@ fn named(
     ensures parses { Spells source.now tokens.now (program_of reducers) → Parses source.now tokens.now result }
     ensures slots { IfOk result (λ r. HaveSlots r.names.found r.slots) }
     ensures tree { IfOk result (λ r. r.reducers ≡ reducers) }
+    ensures wrong { (cause : Cause) (token : ℕ) → names_of (program_of reducers) ≡ Err (cause, token) → Answers result (fault_of cause (offset_of source.now tokens.now token)) }
     ensures only { (found : List (List (ℕ × ℕ))) → names_of (program_of reducers) ≡ Ok found → IfErr result (λ f. f ≡ fault.Memory) }
 {
     match resolve(alloc, reducers.as_slice()) {
