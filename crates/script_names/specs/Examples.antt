@@ -1,10 +1,20 @@
 -- Worked rows: the names of a program, each with its declaration, or its first fault. A name is written with the number
 -- of its token, and most programs are one reducer `s` with the parameter `s`.
 use Rattle.std.specs.Prelude.{◌≡◌, ℕ, List, [], ◌∷◌, Ok, Err, Some, None, codes, refl}
+use Rattle.script_text.specs.declared.token.Token.{Token}
+use Rattle.script_text.specs.declared.token.Kind.{Kind}
+use Rattle.script_text.specs.declared.token.Kind.TheVariants as kind
+use Rattle.script_text.specs.declared.sign.Sign.TheVariants as sign
+use Rattle.script_text.specs.declared.word.Reserved.TheVariants as kept
+use Rattle.script_text.specs.Words.{reserved_of}
+use Rattle.script_text.specs.Signs.{sign_at}
+use Rattle.script_text.specs.Lexical.{tokens_from, piece_at}
+use Rattle.script_grammar.specs.Tokens.{seen_from}
 use Rattle.script_grammar.specs.Trees.{Number, Named, Ex, Literal, Var, Object, Member, Choice, Keyed, Short, LastProp, Dot, Index, NoSuffixes, ThenSuffix, Block, IfElse, ReturnOf, ThrowError, Delete, Set, Do, Item, Const, Let, LetBe, Plain, Items, NoItems, ThenItem, One, Two, Function, Program, NoReducers, ThenReducer}
 use Rattle.script_names.specs.declared.Cause.TheVariants.{UnknownName, Duplicate, ConstWrite}
 use Rattle.script_names.specs.Names.{names_of, reducer_named}
 use Rattle.script_names.specs.Slots.{slots}
+use Rattle.script_names.specs.Scripts.{NameFaultAt}
 
 abbrev s : List ℕ
 s = codes "s"
@@ -38,6 +48,30 @@ of is = ThenReducer (Function 1 s (One 3 s) (items is)) NoReducers
 unknown : names_of (of (Plain (ReturnOf (Var 7 x)) ∷ [])) ≡ Err (UnknownName, 7)
 unfolding names_of
 unknown = refl
+
+-- The same from the bytes: `function f(state) { return x; }` is unknown at the offset 27.
+abbrev source : List ℕ
+source = codes "function f(state) { return x; }"
+
+abbrev token : Kind → ℕ → ℕ → Token
+token k start end = record { kind = k; start = start; end = end }
+
+abbrev tokens : List Token
+tokens = token (kind.Reserved kept.Function) 0 8 ∷ token kind.Name 9 10 ∷ token (kind.Sign sign.OpenRound) 10 11 ∷ token kind.Name 11 16 ∷ token (kind.Sign sign.CloseRound) 16 17 ∷ token (kind.Sign sign.OpenBrace) 18 19 ∷ token (kind.Reserved kept.Return) 20 26 ∷ token kind.Name 27 28 ∷ token (kind.Sign sign.Semicolon) 28 29 ∷ token (kind.Sign sign.CloseBrace) 30 31 ∷ []
+
+cut : tokens_from 0 0 source ≡ Ok tokens
+unfolding tokens_from piece_at reserved_of sign_at
+cut = refl
+
+unknown_in_bytes : NameFaultAt source tokens UnknownName 27
+unfolding names_of seen_from
+unknown_in_bytes = record {
+  program = ThenReducer (Function 1 (codes "f") (One 3 (codes "state")) (items (Plain (ReturnOf (Var 7 x)) ∷ []))) NoReducers;
+  spelled = record { spelled = refl; right = ((tt, tt), tt); levels = λ n. refl };
+  token = 7;
+  first = refl;
+  begins = refl;
+}
 
 -- ---- scopes
 -- `const x = 1; { let x = s; x = x; } return x;`

@@ -1,8 +1,8 @@
 //! The names of a program: the declaration that each of them belongs to, or what is wrong with it. Definitions alone.
 //!
 //! They stand in `specs/`: `Environments` (what names stand for at a place of a program), `Names` (what each name of a
-//! program is, in the text's order, and the first fault), `Slots` (numbers for the variables of a reducer), `Examples`
-//! (worked rows).
+//! program is, in the text's order, and the first fault), `Scripts` (what the tokens of a source are), `Slots` (numbers for
+//! the variables of a reducer), `Examples` (worked rows).
 #![tactic(auto)]
 
 /// What is wrong with a name.
