@@ -1,13 +1,11 @@
 -- How the code counts a text.
-use Rattle.std.specs.Prelude.{◌≡◌, ℕ, ◌+◌, ◌<◌, ◌≤◌, if◌then◌else◌, List, ◌++◌, length, Result, Ok, Err, Option, Some, None, nat_lt, ◌⊎◌}
+use Rattle.std.specs.Prelude.{ℕ, ◌+◌, ◌<◌, ◌≤◌, if◌then◌else◌, List, ◌++◌, length, Result, Ok, Err, Option, Some, None, nat_lt}
 use Rattle.script_text.specs.Lexical.{longest_text}
 use Rattle.script_text.specs.declared.token.Piece.{Piece}
 use Rattle.script_text.specs.declared.token.Token.{Token}
 use Rattle.script_text.specs.declared.token.LexFault.{LexFault}
 use Rattle.script_text.specs.declared.token.Piece.TheVariants as piece
-use Rattle.script_text.specs.Texts.{Found, Step, Closed, Refused, Adds}
-use Rattle.script_text.specs.declared.token.Inside.{Inside}
-use Rattle.script_text.specs.declared.token.Inside.TheVariants.{Plain, Escape, Hex}
+use Rattle.script_text.specs.Texts.{Found, Step, Closed, Refused, Adds, HexWithin}
 use Rattle.js_lex.specs.declared.text.Step.{Step as Counted}
 use Rattle.js_lex.specs.declared.text.Step.TheVariants as counted
 
@@ -16,12 +14,6 @@ abbrev pub counted_step : Step → Counted
 counted_step Closed = counted.Closed
 counted_step Refused = counted.Refused
 counted_step (Adds bytes next) = counted.Adds (length bytes) next
-
--- the digits of `\u` so far have a value that one more keeps within 16 bits
-abbrev pub HexWithin : Inside → Type 0
-HexWithin Plain = Unit {0}
-HexWithin Escape = Unit {0}
-HexWithin (Hex left value) = (left ≡ 4 × value < 1) ⊎ (left ≡ 3 × value < 16) ⊎ (left ≡ 2 × value < 256) ⊎ (left ≡ 1 × value < 4096)
 
 abbrev pub NextWithin : Counted → Type 0
 NextWithin (counted.Adds n next) = HexWithin next × (n < 5)

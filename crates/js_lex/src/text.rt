@@ -1,71 +1,36 @@
 //! Texts between quotes.
 
 ghost use Rattle.std.specs.Prelude.{◌≡◌, ◌≤◌, length, IfSome};
-ghost use Rattle.script_text.specs.Texts.{escaped as spec_escaped, hex_digit as spec_hex_digit, text_step, text_in};
-ghost use Rattle.script_text.specs.declared.token.Inside.TheVariants.{Plain, Hex};
-ghost use Rattle.js_lex.specs.Steps.{counted_step, HexWithin, NextWithin, span};
+ghost use Rattle.script_text.specs.Texts.{text_in};
+ghost use Rattle.script_text.specs.TextSteps.{step_of, NextWithin as TextNextWithin};
+ghost use Rattle.script_text.specs.declared.token.Inside.TheVariants.{Plain};
+ghost use Rattle.js_lex.specs.Steps.{counted_step, NextWithin, span};
 
-use script_text::Inside;
+use script_text::{Inside, TextStep, text_step};
 
 /// The most bytes that the value of a text has.
 const LONGEST: usize = 1_048_576;
 
 /// What one byte of a text does.
-pub(crate) enum Step {
+enum Step {
     Closed,
     Refused,
     /// The byte adds so many bytes to the value.
     Adds(usize, Inside),
 }
 
-fn escaped(byte: u8) -> Step
-    ensures step { result ≡ counted_step (spec_escaped byte) }
+/// What the step adds.
+fn counted(step: TextStep) -> Step
+    requires { TextNextWithin step }
+    ensures step { result ≡ counted_step (step_of step) }
     ensures within { NextWithin result }
 {
-    match byte {
-        b'n' | b'r' | b't' | b'\\' | b'\'' | b'"' => Step::Adds(1, Inside::Plain),
-        b'u' => Step::Adds(0, Inside::Hex(4, 0)),
-        _ => Step::Refused,
-    }
-}
-
-fn hex_digit(left: u32, value: u32, byte: u8) -> Step
-    requires { HexWithin (Hex left value) }
-    ensures step { result ≡ counted_step (spec_hex_digit left value byte) }
-    ensures within { NextWithin result }
-{
-    let Some(digit) = (byte as char).to_digit(16) else {
-        return Step::Refused;
-    };
-    let value = value * 16 + digit;
-    if left > 1 {
-        return Step::Adds(0, Inside::Hex(left - 1, value));
-    }
-    match char::from_u32(value) {
-        Some(character) => Step::Adds(character.len_utf8(), Inside::Plain),
-        None => Step::Refused,
-    }
-}
-
-fn take_byte(quote: u8, state: Inside, byte: u8) -> Step
-    requires { HexWithin state }
-    ensures step { result ≡ counted_step (text_step quote state byte) }
-    ensures within { NextWithin result }
-{
-    match state {
-        Inside::Plain => {
-            if byte == quote {
-                Step::Closed
-            } else {
-                match byte {
-                    b'\\' => Step::Adds(0, Inside::Escape),
-                    b'\n' | b'\r' => Step::Refused,
-                    _ => Step::Adds(1, Inside::Plain),
-                }
-            }
-        }
-        Inside::Escape => escaped(byte),
-        Inside::Hex(left, value) => hex_digit(left, value, byte),
+    match step {
+        TextStep::Closed => Step::Closed,
+        TextStep::Refused => Step::Refused,
+        TextStep::Byte(_) => Step::Adds(1, Inside::Plain),
+        TextStep::Escape(next) => Step::Adds(0, next),
+        TextStep::Character(character) => Step::Adds(character.len_utf8(), Inside::Plain),
     }
 }
 
@@ -79,7 +44,7 @@ pub(crate) fn text_end(quote: u8, bytes: &[u8]) -> Option<usize>
     let mut state = Inside::Plain;
     let mut value = 0;
     for (at, byte) in bytes.iter().enumerate() {
-        match take_byte(quote, state, *byte) {
+        match counted(text_step(quote, state, *byte)) {
             Step::Closed => return Some(at + 1),
             Step::Refused => return None,
             Step::Adds(added, next) => {

@@ -1,9 +1,10 @@
-//! Sources, with the tokens or the fault that the rules of the language give them.
+//! Sources, with the tokens, the number of reducers or the fault that the rules of the language give them.
 #![tactic(auto)]
 
 #[cfg(test)]
 mod tests {
     use js_lex::{Kind, LexFault, Tokens, lex};
+    use js_syntax::{SyntaxFault, read_program};
     use std::alloc::{AllocError, Global};
     use std::test::Fail;
 
@@ -147,6 +148,186 @@ mod tests {
         for (source, expected) in &SOURCES {
             let got = answer(rt.alloc(), source)?;
             assert_eq!(rt; got.as_str(), *expected, "{source:?}");
+        }
+        Ok(())
+    }
+
+    /// Each source with the number of its reducers, or its fault and offset.
+    const PROGRAMS: [(&str, &str); 46] = [
+        ("", "0"),
+        ("// nothing", "0"),
+        ("function f(s) { }", "1"),
+        ("function f(s, a) { } function g(s) { return s; }", "2"),
+        ("x", "Unexpected 0"),
+        ("function f(s) { } x", "Unexpected 18"),
+        ("function", "Unexpected 8"),
+        ("function of(s) { }", "Unexpected 9"),
+        ("function f() { }", "Unexpected 11"),
+        ("function f(s, a, b) { }", "Unexpected 15"),
+        ("function f(s,) { }", "Unexpected 13"),
+        ("function f(s) {", "Unexpected 15"),
+        (
+            "function f(s) { const x = 1; let y; let z = x; { } ; }",
+            "1",
+        ),
+        ("function f(s) { const x; }", "Unexpected 23"),
+        ("function f(s) { let [a] = s; }", "Unexpected 20"),
+        ("function f(s) { if (s) const x = 1; }", "Unexpected 23"),
+        ("function f(s) { if (s) s = 1; else s.a = 2; }", "1"),
+        ("function f(s) { if (s) if (s) ; else ; else ; }", "1"),
+        ("function f(s) { if (s) ; else ; else ; }", "Unexpected 32"),
+        ("function f(s) { return; return s }", "Unexpected 33"),
+        ("function f(s) { return", "Unexpected 22"),
+        ("function f(s) { throw s; throw new Error('a'); }", "1"),
+        ("function f(s) { throw new Map(); }", "Unexpected 26"),
+        ("function f(s) { throw new Error(); }", "Unexpected 32"),
+        ("function f(s) { delete s.a; delete (s.a)[0]; }", "1"),
+        ("function f(s) { delete s; }", "Unexpected 24"),
+        ("function f(s) { delete (s.a); }", "Unexpected 28"),
+        ("function f(s) { (s) = 1; }", "Unexpected 20"),
+        ("function f(s) { s + s = 1; }", "Unexpected 22"),
+        ("function f(s) { s += 1; }", "Unexpected 19"),
+        ("function f(s) { {a: 1}.x = 2; }", "Unexpected 18"),
+        ("function f(s) { s.if = s.new; }", "1"),
+        ("function f(s) { s.'a' = 1; }", "Unexpected 18"),
+        (
+            "function f(s) { return {if: 1, 'a b': 2, s, t: [1, [], ], }; }",
+            "1",
+        ),
+        ("function f(s) { return {if}; }", "Unexpected 26"),
+        ("function f(s) { return {'a'}; }", "Unexpected 27"),
+        ("function f(s) { return [,]; }", "Unexpected 24"),
+        (
+            "function f(s) { return s === 1 || !s.a && -s < 2 + 3 * 4 % 5; }",
+            "1",
+        ),
+        ("function f(s) { return s ? 1 : s ? 2 : 3; }", "1"),
+        ("function f(s) { return s ?: 1; }", "Unexpected 26"),
+        ("function f(s) { return - ; }", "Unexpected 25"),
+        ("function f(s) { for (const x of s) { } }", "Unexpected 16"),
+        ("function f(s) { s.push(1); }", "Unexpected 22"),
+        ("function f(s) { return new Map(); }", "Unexpected 23"),
+        ("function f(s) { return original(s); }", "Unexpected 23"),
+        ("function f(s) { return Object.keys(s); }", "Unexpected 23"),
+    ];
+
+    /// What stands before, what opens a level, what stands inside, what closes the level, what stands behind; and
+    /// the fault where the level is opened 64 times. The body of the reducer is a level of its own.
+    const NESTED: [[&str; 6]; 9] = [
+        [
+            "function f(s) { return ",
+            "(",
+            "s",
+            ")",
+            "; }",
+            "TooNested 86",
+        ],
+        [
+            "function f(s) { return ",
+            "[",
+            "s",
+            "]",
+            "; }",
+            "TooNested 86",
+        ],
+        [
+            "function f(s) { return ",
+            "{a:",
+            "s",
+            "}",
+            "; }",
+            "TooNested 212",
+        ],
+        [
+            "function f(s) { return ",
+            "!",
+            "s",
+            "",
+            "; }",
+            "TooNested 86",
+        ],
+        [
+            "function f(s) { return ",
+            "s ? ",
+            "s",
+            " : s",
+            "; }",
+            "TooNested 277",
+        ],
+        [
+            "function f(s) { return ",
+            "s[",
+            "s",
+            "]",
+            "; }",
+            "TooNested 150",
+        ],
+        ["function f(s) { ", "{", "", "}", " }", "TooNested 79"],
+        [
+            "function f(s) { ",
+            "if (s) ",
+            ";",
+            "",
+            " }",
+            "TooNested 460",
+        ],
+        [
+            "function f(s) { ",
+            "if (s) {",
+            "",
+            "}",
+            " }",
+            "TooNested 523",
+        ],
+    ];
+
+    fn program(alloc: Global, source: &str) -> Result<String, AllocError> {
+        let Ok(tokens) = lex(alloc, source.as_bytes()) else {
+            return format!(in alloc; "no tokens");
+        };
+        match read_program(alloc, source.as_bytes(), &tokens) {
+            Ok(reducers) => {
+                let count = reducers.len();
+                format!(in alloc; "{count}")
+            }
+            Err(SyntaxFault::Unexpected(at)) => format!(in alloc; "Unexpected {at}"),
+            Err(SyntaxFault::TooNested(at)) => format!(in alloc; "TooNested {at}"),
+            Err(SyntaxFault::Memory) => format!(in alloc; "Memory"),
+        }
+    }
+
+    /// The source in which the level is opened so many times.
+    fn nested(alloc: Global, row: &[&str; 6], levels: usize) -> Result<String, AllocError> {
+        let mut source = String::from_str(alloc, row[0])?;
+        for _ in 0..levels {
+            source.push_str(row[1])?;
+        }
+        source.push_str(row[2])?;
+        for _ in 0..levels {
+            source.push_str(row[3])?;
+        }
+        source.push_str(row[4])?;
+        Ok(source)
+    }
+
+    #[test]
+    fn programs_of_sources(rt: HostRuntime) -> Result<(), Fail> {
+        for (source, expected) in &PROGRAMS {
+            let got = program(rt.alloc(), source)?;
+            assert_eq!(rt; got.as_str(), *expected, "{source:?}");
+        }
+        Ok(())
+    }
+
+    #[test]
+    fn a_level_beyond_the_64th(rt: HostRuntime) -> Result<(), Fail> {
+        for row in &NESTED {
+            let source = nested(rt.alloc(), row, 63)?;
+            let got = program(rt.alloc(), source.as_str())?;
+            assert_eq!(rt; got.as_str(), "1", "{source:?}");
+            let source = nested(rt.alloc(), row, 64)?;
+            let got = program(rt.alloc(), source.as_str())?;
+            assert_eq!(rt; got.as_str(), row[5], "{source:?}");
         }
         Ok(())
     }

@@ -3,3 +3,4 @@ pub mod Trees
 pub mod Spelling
 pub mod Rules
 pub mod Programs
+pub mod Sources

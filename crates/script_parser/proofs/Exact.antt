@@ -4,7 +4,7 @@ use Rattle.script_grammar.specs.Tokens.{Tok, Toks}
 use Rattle.script_grammar.specs.Trees.{Program}
 use Rattle.script_grammar.specs.Spelling.{spell_program}
 use Rattle.script_grammar.specs.Rules.{Right, within_program}
-use Rattle.script_grammar.specs.Programs.{IsProgram, Begins, BeginsWithin, Stops, IsTooNested}
+use Rattle.script_grammar.specs.Programs.{IsProgram, Begins, BeginsWithin, Stops, IsUnexpected, IsTooNested}
 use Rattle.script_parser.specs.Steps.{Why, Unexpected, TooNested, Outcome, and_then, ◌>>=◌, pure, finish}
 use Rattle.script_parser.specs.Parser.{below, reducers, program}
 use Rattle.script_parser.specs.Exact.{Exact}
@@ -12,6 +12,7 @@ use Rattle.script_parser.proofs.Good.{Judge, Alike, Shown}
 use Rattle.script_parser.proofs.Statements.{ProgramAt, good_program}
 use Rattle.script_parser.proofs.Takes.{Takes}
 use Rattle.script_parser.proofs.AcceptStatements.{accept_program}
+use Rattle.script_parser.proofs.Unique.{stops_unexpected, stops_nested}
 
 ok_same : (p q : Program × Toks) (a b : Outcome Program) → a ≡ Ok p → b ≡ Ok q → a ≡ b → p ≡ q
 ok_same p q a b f g e = cc
@@ -119,12 +120,23 @@ nested d ts (t ∷ left) x more p s e b q r h = record {
 
 pub exact : (d : ℕ) (ts : Toks) → Exact d ts
 exact d ts = record {
-  read = λ p rest e. told d ts p rest (program d ts) ((good_program d).judge ts) e (all_read d ts p rest e);
+  read = read;
   only = only;
-  unexpected = λ rest e. let j = judged d ts (Unexpected, rest) (program d ts) ((good_program d).judge ts) e in record { front = j.0; splits = j.3; begins = within d ts (Unexpected, rest) j; stops = stops d j.0 rest (rw j.3 at e) };
-  nested = λ rest e. let j = judged d ts (TooNested, rest) (program d ts) ((good_program d).judge ts) e in nested d ts rest j.0 j.1 j.2 j.3 e (within d ts (TooNested, rest) j) j.4.0 j.4.1 j.5;
+  unexpected = unexpected;
+  unexpected_only = λ rest u. stops_unexpected d ts rest read unexpected too_nested u;
+  nested = too_nested;
+  nested_only = λ rest n. stops_nested d ts rest read unexpected too_nested n;
 }
   where
+    read : (p : Program) (rest : Toks) → program d ts ≡ Ok (p, rest) → IsProgram d ts p
+    read p rest e = told d ts p rest (program d ts) ((good_program d).judge ts) e (all_read d ts p rest e)
+
+    unexpected : (rest : Toks) → program d ts ≡ Err (Unexpected, rest) → IsUnexpected d ts rest
+    unexpected rest e = let j = judged d ts (Unexpected, rest) (program d ts) ((good_program d).judge ts) e in record { front = j.0; splits = j.3; begins = within d ts (Unexpected, rest) j; stops = stops d j.0 rest (rw j.3 at e) }
+
+    too_nested : (rest : Toks) → program d ts ≡ Err (TooNested, rest) → IsTooNested d ts rest
+    too_nested rest e = let j = judged d ts (TooNested, rest) (program d ts) ((good_program d).judge ts) e in nested d ts rest j.0 j.1 j.2 j.3 e (within d ts (TooNested, rest) j) j.4.0 j.4.1 j.5
+
     only : (p : Program) → IsProgram d ts p → program d ts ≡ Ok (p, [])
     only p h = go (accept_program p d h.right)
       where

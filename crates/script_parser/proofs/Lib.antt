@@ -9,3 +9,5 @@ pub mod Follow
 pub mod Accept
 pub mod AcceptStatements
 pub mod Exact
+pub mod Mono
+pub mod Unique

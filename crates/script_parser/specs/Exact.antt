@@ -10,4 +10,6 @@ pub record Exact (d : ℕ) (ts : Toks) : Type 0 where
   pub read : (p : Program) (rest : Toks) → program d ts ≡ Ok (p, rest) → IsProgram d ts p
   pub only : (p : Program) → IsProgram d ts p → program d ts ≡ Ok (p, [])
   pub unexpected : (rest : Toks) → program d ts ≡ Err (Unexpected, rest) → IsUnexpected d ts rest
+  pub unexpected_only : (rest : Toks) → IsUnexpected d ts rest → program d ts ≡ Err (Unexpected, rest)
   pub nested : (rest : Toks) → program d ts ≡ Err (TooNested, rest) → IsTooNested d ts rest
+  pub nested_only : (rest : Toks) → IsTooNested d ts rest → program d ts ≡ Err (TooNested, rest)

@@ -1,4 +1,5 @@
 pub mod Signs
 pub mod Words
 pub mod Texts
+pub mod TextSteps
 pub mod Lexical

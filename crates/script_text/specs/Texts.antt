@@ -1,5 +1,5 @@
 -- The text between two quotes: what its characters stand for.
-use Rattle.std.specs.Prelude.{ℕ, ◌+◌, ◌-◌, ◌*◌, if◌then◌else◌, ◌==◌, ◌||◌, List, [], ◌∷◌, ◌++◌, Option, Some, None, nat_lt}
+use Rattle.std.specs.Prelude.{◌≡◌, ℕ, ◌<◌, ◌⊎◌, ◌+◌, ◌-◌, ◌*◌, if◌then◌else◌, ◌==◌, ◌||◌, List, [], ◌∷◌, ◌++◌, Option, Some, None, nat_lt}
 use Rattle.std.specs.Char.{digit_value, encode_utf8}
 use Rattle.script_text.specs.declared.token.Inside.{Inside}
 use Rattle.script_text.specs.declared.token.Inside.TheVariants.{Plain, Escape, Hex}
@@ -35,6 +35,12 @@ hex_digit left value b =
     if nat_lt (digit_value b) 16
     then (if nat_lt 1 left then Adds [] (Hex (left - 1) (value * 16 + digit_value b)) else coded (value * 16 + digit_value b))
     else Refused
+
+-- the digits of `\u` so far have a value that one more keeps within 16 bits
+abbrev pub HexWithin : Inside → Type 0
+HexWithin Plain = Unit {0}
+HexWithin Escape = Unit {0}
+HexWithin (Hex left value) = (left ≡ 4 × value < 1) ⊎ (left ≡ 3 × value < 16) ⊎ (left ≡ 2 × value < 256) ⊎ (left ≡ 1 × value < 4096)
 
 abbrev pub text_step : ℕ → Inside → ℕ → Step
 text_step quote Plain b =

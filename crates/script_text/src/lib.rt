@@ -3,9 +3,11 @@
 #![tactic(auto)]
 
 mod sign;
+mod text;
 mod token;
 mod word;
 
 pub use sign::{SIGNS, Sign, sign_at};
+pub use text::{TextStep, text_step};
 pub use token::{Cause, Inside, Kind, LexFault, Piece, Token};
 pub use word::{RESERVED, Reserved, reserved_of};

@@ -1,8 +1,8 @@
 use Rattle.std.proofs.Common.{◌≡◌, ◌≤◌, drop}
 use Rattle.script_text.specs.Lexical.{longest_text}
-use Rattle.script_text.specs.Texts.{text_in}
+use Rattle.script_text.specs.Texts.{text_in, HexWithin}
 use Rattle.script_text.specs.declared.token.Inside.TheVariants.{Plain}
-use Rattle.js_lex.specs.Steps.{HexWithin, span}
+use Rattle.js_lex.specs.Steps.{span}
 use Rattle.js_lex.proofs.text.text_end.Given as goal
 
 abbrev pub invariant-loop-at : goal.invariant-loop-at
