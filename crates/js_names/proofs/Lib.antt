@@ -1,0 +1,5 @@
+pub mod Going
+pub mod Keys
+pub mod Reading
+pub mod Trail
+pub mod Whole

@@ -1,0 +1,4 @@
+pub mod Index
+pub mod Judging
+pub mod Program
+pub mod Scopes

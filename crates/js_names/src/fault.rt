@@ -1,0 +1,36 @@
+//! What is wrong with the names of a program.
+
+use script_names::Cause;
+use std::alloc::{AllocError, AllocFailed};
+use thiserror::Error;
+
+/// What is wrong with a name, and the number of its token.
+#[derive(Debug, Drop, Error)]
+pub enum NameFault {
+    #[error("{0:?} at the token {1}")]
+    Wrong(Cause, usize),
+    #[error("out of memory")]
+    Memory,
+}
+
+impl From<AllocError> for NameFault {
+    ghost use Rattle.std.specs.Prelude.{◌≡◌};
+    ghost use Rattle.js_names.specs.declared.fault.NameFault.TheVariants as fault;
+
+    ghost from_gives = { λ _ e. e ≡ fault.Memory };
+
+    fn from(_error: AllocError) -> NameFault {
+        NameFault::Memory
+    }
+}
+
+impl<T: Drop> From<AllocFailed<T>> for NameFault {
+    ghost use Rattle.std.specs.Prelude.{◌≡◌};
+    ghost use Rattle.js_names.specs.declared.fault.NameFault.TheVariants as fault;
+
+    ghost from_gives = { λ _ e. e ≡ fault.Memory };
+
+    fn from(_error: AllocFailed<T>) -> NameFault {
+        NameFault::Memory
+    }
+}

@@ -1,0 +1,72 @@
+//! Why tokens are no program.
+
+use js_syntax::SyntaxFault;
+use script_names::Cause;
+use std::alloc::{AllocError, AllocFailed};
+use thiserror::Error;
+
+/// Why tokens are no program, with the offset in bytes.
+#[derive(Debug, Drop, Error)]
+pub enum ParseFault {
+    #[error("nothing goes on like this at {0}")]
+    Unexpected(usize),
+    #[error("too many levels are open at {0}")]
+    TooNested(usize),
+    #[error("no declaration that has ended stands for the name at {0}")]
+    UnknownName(usize),
+    #[error("the name at {0} is declared for the second time")]
+    Duplicate(usize),
+    #[error("the constant at {0} is assigned to")]
+    ConstWrite(usize),
+    #[error("out of memory")]
+    Memory,
+}
+
+impl ParseFault {
+    ghost use Rattle.std.specs.Prelude.{◌≡◌};
+    ghost use Rattle.js_parse.specs.Causes.{fault_of, syntax_fault};
+
+    /// The same fault of the grammar.
+    pub(crate) fn of_syntax(fault: SyntaxFault) -> ParseFault
+        ensures { result ≡ syntax_fault fault }
+    {
+        match fault {
+            SyntaxFault::Unexpected(at) => ParseFault::Unexpected(at),
+            SyntaxFault::TooNested(at) => ParseFault::TooNested(at),
+            SyntaxFault::Memory => ParseFault::Memory,
+        }
+    }
+
+    /// What is wrong with the name that begins here.
+    pub(crate) fn of_name(cause: Cause, at: usize) -> ParseFault
+        ensures { result ≡ fault_of cause at }
+    {
+        match cause {
+            Cause::UnknownName => ParseFault::UnknownName(at),
+            Cause::Duplicate => ParseFault::Duplicate(at),
+            Cause::ConstWrite => ParseFault::ConstWrite(at),
+        }
+    }
+}
+
+impl From<AllocError> for ParseFault {
+    ghost use Rattle.std.specs.Prelude.{◌≡◌};
+    ghost use Rattle.js_parse.specs.declared.fault.ParseFault.TheVariants as fault;
+
+    ghost from_gives = { λ _ e. e ≡ fault.Memory };
+
+    fn from(_error: AllocError) -> ParseFault {
+        ParseFault::Memory
+    }
+}
+
+impl<T: Drop> From<AllocFailed<T>> for ParseFault {
+    ghost use Rattle.std.specs.Prelude.{◌≡◌};
+    ghost use Rattle.js_parse.specs.declared.fault.ParseFault.TheVariants as fault;
+
+    ghost from_gives = { λ _ e. e ≡ fault.Memory };
+
+    fn from(_error: AllocFailed<T>) -> ParseFault {
+        ParseFault::Memory
+    }
+}

@@ -1,0 +1,98 @@
+-- What is judged stands in the text's order.
+use Rattle.std.proofs.Common.{ℕ, List, [], ◌∷◌, ◌++◌, map, Option, Some, None, Ok, Err}
+use Rattle.script_grammar.specs.Tokens.{Tok, Name, Toks}
+use Rattle.script_grammar.specs.Trees.{Ex, Literal, Var, Round, ListOf, Object, Member, Unary, Chain, Choice, Stmt, Block, Empty, IfThen, IfElse, Return, ReturnOf, Throw, ThrowError, Delete, Set, Do, Item, Const, Let, LetBe, Plain, Items, NoItems, ThenItem}
+use Rattle.script_grammar.specs.Spelling.{spell_ex, spell_stmt, spell_item, spell_items}
+use Rattle.script_names.specs.declared.Cause.{Cause}
+use Rattle.script_names.specs.declared.Binding.{Binding}
+use Rattle.script_names.specs.declared.Binding.TheVariants.{Unset, Variable, Constant}
+use Rattle.script_names.specs.Environments.{Env, enter}
+use Rattle.script_names.specs.Names.{Name as Named, Judged, read, read_as, reads, writes, write_as, declare_as, declares, after, judged, judged_item, judged_items}
+use Rattle.script_order.proofs.Places.{In, none, keep, skip, in_ex}
+
+-- what is judged up to the first fault are names among these tokens, in this order
+pub data Follows : List Judged → Toks → Type 0 where
+  done : Follows [] []
+  good : (at d : ℕ) (x : List ℕ) (js : List Judged) (ts : Toks) → Follows js ts → Follows (Ok (at, d) ∷ js) (Name at x ∷ ts)
+  bad : (f : Cause × ℕ) (js : List Judged) (ts : Toks) → Follows (Err f ∷ js) ts
+  pass : (t : Tok) (js : List Judged) (ts : Toks) → Follows js ts → Follows js (t ∷ ts)
+
+pub app : {js ks : List Judged} {ts ss : Toks} → Follows js ts → Follows ks ss → Follows (js ++ ks) (ts ++ ss)
+app done b = b
+app (good at d x js ts a) b = good at d x _ _ (app a b)
+app (bad f js ts) b = bad f _ _
+app (pass t js ts a) b = pass t _ _ (app a b)
+
+pub nothing : (ts : Toks) → Follows [] ts
+nothing [] = done
+nothing (t ∷ ts) = pass t [] ts (nothing ts)
+
+pub more : {js : List Judged} {ts : Toks} → Follows js ts → (ss : Toks) → Follows js (ts ++ ss)
+more done ss = nothing ss
+more (good at d x js ts a) ss = good at d x js _ (more a ss)
+more (bad f js ts) ss = bad f js _
+more (pass t js ts a) ss = pass t js _ (more a ss)
+
+pub next : {js : List Judged} {ts : Toks} (t : Tok) → Follows js ts → Follows js (t ∷ ts)
+next t a = pass t _ _ a
+
+read_one : (at : ℕ) (x : List ℕ) (b : Option Binding) (js : List Judged) (ts : Toks) → Follows js ts → Follows (read_as at b ∷ js) (Name at x ∷ ts)
+read_one at x None js ts a = bad _ _ _
+read_one at x (Some Unset) js ts a = bad _ _ _
+read_one at x (Some (Variable d)) js ts a = good at d x js ts a
+read_one at x (Some (Constant d)) js ts a = good at d x js ts a
+
+write_one : (at : ℕ) (x : List ℕ) (b : Option Binding) (js : List Judged) (ts : Toks) → Follows js ts → Follows (write_as at b ∷ js) (Name at x ∷ ts)
+write_one at x None js ts a = bad _ _ _
+write_one at x (Some Unset) js ts a = bad _ _ _
+write_one at x (Some (Variable d)) js ts a = good at d x js ts a
+write_one at x (Some (Constant d)) js ts a = bad _ _ _
+
+pub declare_one : (at : ℕ) (x : List ℕ) (b : Option Binding) (js : List Judged) (ts : Toks) → Follows js ts → Follows (declare_as at b ∷ js) (Name at x ∷ ts)
+declare_one at x None js ts a = good at at x js ts a
+declare_one at x (Some Unset) js ts a = good at at x js ts a
+declare_one at x (Some (Variable d)) js ts a = bad _ _ _
+declare_one at x (Some (Constant d)) js ts a = bad _ _ _
+
+all_read : (env : Env) (us : List Named) (ts : Toks) → In us ts → Follows (map (read env) us) ts
+all_read env us ts none = done
+all_read env us ts (keep at x vs ss a) = read_one at x (env x) _ _ (all_read env vs ss a)
+all_read env us ts (skip t vs ss a) = pass t _ _ (all_read env vs ss a)
+
+pub read_ex : (env : Env) (e : Ex) → Follows (reads env e) (spell_ex e)
+read_ex env e = all_read env _ _ (in_ex e)
+
+write_ex : (env : Env) (e : Ex) → Follows (writes env e) (spell_ex e)
+write_ex env (Var at x) = write_one at x (env x) [] [] done
+write_ex env (Literal l) = read_ex env (Literal l)
+write_ex env (Round e) = read_ex env (Round e)
+write_ex env (ListOf es) = read_ex env (ListOf es)
+write_ex env (Object ps) = read_ex env (Object ps)
+write_ex env (Member e s ss) = read_ex env (Member e s ss)
+write_ex env (Unary s e) = read_ex env (Unary s e)
+write_ex env (Chain k a s b ls) = read_ex env (Chain k a s b ls)
+write_ex env (Choice c a b) = read_ex env (Choice c a b)
+
+mutual
+  pub in_stmt : (env : Env) (s : Stmt) → Follows (judged env s) (spell_stmt s)
+  in_stmt env (Block is) = next _ (more (in_items (enter (declares is) env) is) _)
+  in_stmt env Empty = nothing _
+  in_stmt env (IfThen e s) = next _ (next _ (app (read_ex env e) (next _ (in_stmt env s))))
+  in_stmt env (IfElse e s t) = next _ (next _ (app (read_ex env e) (next _ (app (in_stmt env s) (next _ (in_stmt env t))))))
+  in_stmt env Return = nothing _
+  in_stmt env (ReturnOf e) = next _ (more (read_ex env e) _)
+  in_stmt env (Throw e) = next _ (more (read_ex env e) _)
+  in_stmt env (ThrowError e) = next _ (next _ (next _ (next _ (more (read_ex env e) _))))
+  in_stmt env (Delete e) = next _ (more (read_ex env e) _)
+  in_stmt env (Set t e) = app (write_ex env t) (next _ (more (read_ex env e) _))
+  in_stmt env (Do e) = more (read_ex env e) _
+
+  in_item : (env : Env) (i : Item) → Follows (judged_item env i) (spell_item i)
+  in_item env (Const at x e) = next _ (declare_one at x (env x) _ _ (next _ (more (read_ex env e) _)))
+  in_item env (Let at x) = next _ (declare_one at x (env x) _ _ (nothing _))
+  in_item env (LetBe at x e) = next _ (declare_one at x (env x) _ _ (next _ (more (read_ex env e) _)))
+  in_item env (Plain s) = in_stmt env s
+
+  pub in_items : (env : Env) (is : Items) → Follows (judged_items env is) (spell_items is)
+  in_items env NoItems = done
+  in_items env (ThenItem i is) = app (in_item env i) (in_items (after env i) is)
