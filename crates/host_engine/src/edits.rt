@@ -9,7 +9,6 @@ ghost use Rattle.host_machine.specs.Flat.{is_integer, is_text_key, is_flat_path,
 ghost use Rattle.host_engine.specs.Edits.{Edits, EditsState, EditsAll, is_number};
 ghost use Rattle.host_engine.specs.Kept.{number_of};
 
-use crate::name::Name;
 use crate::table::Table;
 use plain_values::{Key, Node, Op, Patch, PatchWhy, Safe, Text, Val};
 use std::alloc::{AllocError, Global};
@@ -99,8 +98,7 @@ fn set_entry(alloc: Global, table: &mut Table, name: &Text, number: Safe) -> Res
     if is_long(name) {
         return Err(EditFault::Refused(PatchWhy::KeyTooLong));
     }
-    let name = Name::of(alloc, name.copy(alloc)?)?;
-    Ok(table.set(name, number)?)
+    Ok(table.set(alloc, name, number)?)
 }
 
 fn unset_entry(table: &mut Table, name: &Text) -> Result<bool, EditFault>

@@ -107,12 +107,12 @@ impl Table {
     }
 
     /// Sets a name to a number, and says whether that changed the table.
-    pub fn set(&mut self, name: Name, number: Safe) -> Result<bool, AllocError>
-        requires { IsTrue (is_field_key (key.Text name)) }
-        ensures table { IfOk result (λ _. self.new ≡ put key_cmp (key.Text name) (prim (key.Int number)) self.old) }
+    pub fn set(&mut self, alloc: Global, name: &Text, number: Safe) -> Result<bool, AllocError>
+        requires { IsTrue (is_field_key (key.Text name.now)) }
+        ensures table { IfOk result (λ _. self.new ≡ put key_cmp (key.Text name.now) (prim (key.Int number)) self.old) }
         ensures wrote { IfOk result (λ w. w ≡ not (same_table self.old self.new)) }
     {
-        put_field(&mut self.fields, name, number)
+        put_field(&mut self.fields, alloc, name, number)
     }
 
     /// Removes a name, and says whether that changed the table.
@@ -172,22 +172,29 @@ fn capped(total: u64, bytes: u64) -> u64
     total.saturating_add(bytes + 2).min(1 << 63)
 }
 
-fn put_field(fields: &mut Vec<Field>, name: Name, number: Safe) -> Result<bool, AllocError>
+fn put_field(
+    fields: &mut Vec<Field>,
+    alloc: Global,
+    name: &Text,
+    number: Safe,
+) -> Result<bool, AllocError>
     requires sorted { IsTrue (is_sorted key_cmp (map of_field fields.old.items)) }
     requires flat { IsTrue (is_flat_table (map of_field fields.old.items)) }
-    requires name { IsTrue (is_field_key (key.Text name)) }
-    ensures table { IfOk result (λ _. map of_field fields.new.items ≡ put key_cmp (key.Text name) (prim (key.Int number)) (map of_field fields.old.items)) }
+    requires name { IsTrue (is_field_key (key.Text name.now)) }
+    ensures table { IfOk result (λ _. map of_field fields.new.items ≡ put key_cmp (key.Text name.now) (prim (key.Int number)) (map of_field fields.old.items)) }
     ensures wrote { IfOk result (λ w. w ≡ not (same_table (map of_field fields.old.items) (map of_field fields.new.items))) }
     ensures sorted { IsTrue (is_sorted key_cmp (map of_field fields.new.items)) }
     ensures flat { IsTrue (is_flat_table (map of_field fields.new.items)) }
 {
-    match place_of(fields, name.text()) {
+    match place_of(fields, name) {
         Ok(at) => {
             let wrote = is_other(fields[at].number, number);
+            let name = fields[at].name.share()?;
             fields[at] = Field { name, number };
             Ok(wrote)
         }
         Err(at) => {
+            let name = Name::of(alloc, name.copy(alloc)?)?;
             fields.insert(at, Field { name, number })?;
             Ok(true)
         }
