@@ -1,0 +1,5 @@
+use Rattle.draft_core.specs.Seen.{Stands}
+use Rattle.map_set_examples.proofs.maps.map_set_keeps_the_order_of_the_keys.Given as goal
+
+abbrev pub invariant-loop-of : goal.invariant-loop-of
+invariant-loop-of g l = Stands l.store l.scope

@@ -1,0 +1,5 @@
+use Rattle.draft_core.specs.Seen.{Stands}
+use Rattle.map_set_examples.proofs.members.member_keys_ascend.Given as goal
+
+abbrev pub invariant-loop-of : goal.invariant-loop-of
+invariant-loop-of g l = Stands l.store l.scope
