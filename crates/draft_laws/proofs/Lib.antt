@@ -1,0 +1,4 @@
+mod PathLaws
+mod ReadLaws
+mod StoreLaws
+mod WriteLaws

@@ -1,0 +1,171 @@
+-- What reads give, and what they leave.
+use Rattle.std.proofs.Common.{◌≡◌, ℕ, zero, suc, pos, negsuc, ◌-◌, ◌<◌, List, [], ◌∷◌, refl, ap, sym, ◌∙◌, subst, arith, Bool, true, false, not, Result, Ok, Err, cond}
+use Rattle.std.specs.Prelude.{◌||◌, nat_lt, Option, Some, None, if◌then◌else◌, ⊤}
+use Rattle.std.specs.FinMap.Entries.{find}
+use Rattle.std.specs.Ordering.{eq_by_cmp}
+use Rattle.value_model.specs.declared.key.Key.{Key}
+use Rattle.value_model.specs.declared.key.Key.TheVariants as key
+use Rattle.value_model.specs.declared.words.Kind.{Kind}
+use Rattle.value_model.specs.declared.words.Kind.TheVariants as kind
+use Rattle.value_model.specs.Limits.{is_reserved_text}
+use Rattle.value_model.specs.Order.{key_cmp}
+use Rattle.numbered.specs.Store.{tree_at}
+use Rattle.numbered.specs.Tree.{Tree, Branches, prim, node, none, branch}
+use Rattle.run_heap.specs.declared.value.Given.TheVariants as given
+use Rattle.run_heap.specs.declared.value.Rv.{Rv}
+use Rattle.run_heap.specs.declared.value.Rv.TheVariants.{Undefined, Prim, Obj, Frozen}
+use Rattle.run_heap.specs.declared.content.Content.{Content}
+use Rattle.run_heap.specs.declared.fault.DraftFault.{DraftFault}
+use Rattle.run_heap.specs.declared.fault.DraftFault.TheVariants as fault
+use Rattle.run_heap.specs.Heap.{Heap, drafts, shown, is_foreign, given_table, given_content, with_object, next_object, fresh}
+use Rattle.run_heap.specs.Operations.{Rows, or_undefined, value_at, entry, then_read, read, get, listed, keys_of, keys_shown, is_object, then_list, keys, is_marked, any_below, any_written, rows_of, table_of, marked, entry_at}
+use Rattle.run_heap.specs.Sound.{IsSound, Grows}
+use Rattle.draft_laws.specs.Walks.{then_reads, read_along, IsNoObject, AllPrimitive}
+
+-- ---- what stands in a frozen node
+abbrev NoObjects : Rows → Type 0
+NoObjects [] = ⊤
+NoObjects (e ∷ t) = IsNoObject e.1 × NoObjects t
+
+given_frozen : (es : Branches) → NoObjects (given_table given.Frozen es)
+given_frozen none = tt
+given_frozen (branch k (prim j) es) = (tt, given_frozen es)
+given_frozen (branch k (node id of ds) es) = (tt, given_frozen es)
+
+found_none : (k : Key) (t : Rows) → NoObjects t → IsNoObject (or_undefined (find key_cmp k t))
+found_none k [] a = tt
+found_none k (e ∷ t) a = elim (eq_by_cmp key_cmp k e.0) as (λ b. IsNoObject (or_undefined (cond b (Some e.1) (find key_cmp k t)))) [
+  | true ↦ a.0
+  | false ↦ found_none k t a.1
+]
+
+element_none : (i : ℕ) (t : Rows) → NoObjects t → IsNoObject (or_undefined (value_at i t))
+element_none i [] a = tt
+element_none zero (e ∷ t) a = a.0
+element_none (suc i) (e ∷ t) a = element_none i t a.1
+
+value_none : (i : ℕ) (t : Rows) (v : Rv) → NoObjects t → value_at i t ≡ Some v → IsNoObject v
+value_none i [] v a e = absurd (cc)
+value_none zero (x ∷ t) v a e = let q : x.1 ≡ v = cc in subst IsNoObject q a.0
+value_none (suc i) (x ∷ t) v a e = value_none i t v a.1 e
+
+entry_none : (k : Key) (of : Kind) (t : Rows) (v : Rv) → NoObjects t → entry k of t ≡ Ok v → IsNoObject v
+entry_none (key.Text s) kind.Obj t v a = elim (is_reserved_text s) as (λ b. (if b then Err fault.ReservedKey else Ok (or_undefined (find key_cmp (key.Text s) t))) ≡ Ok v → IsNoObject v) [
+  | true ↦ λ e. absurd (cc)
+  | false ↦ λ e. let q : or_undefined (find key_cmp (key.Text s) t) ≡ v = cc in subst IsNoObject q (found_none (key.Text s) t a)
+]
+entry_none (key.Int (pos i)) kind.List t v a = λ e. let q : or_undefined (value_at i t) ≡ v = cc in subst IsNoObject q (element_none i t a)
+entry_none (key.Int (negsuc i)) kind.List t v a = λ e. let q : Undefined ≡ v = cc in subst IsNoObject q tt
+entry_none _ _ t v a = λ e. absurd (cc)
+
+node_none : (k : Key) (t : Tree) (v : Rv) → then_read (λ c. entry k c.kind c.table) (given_content given.Frozen t) ≡ Ok v → IsNoObject v
+node_none k (prim j) v e = absurd (cc)
+node_none k (node id of es) v e = entry_none k of (given_table given.Frozen es) v (given_frozen es) e
+
+get_none : (k : Key) (h : Heap) (of v : Rv) → IsNoObject of → get k h of ≡ Ok v → IsNoObject v
+get_none k h Undefined v n e = absurd (cc)
+get_none k h (Prim j) v n e = absurd (cc)
+get_none k h (Obj r) v n e = absurd n
+get_none k h (Frozen id) v n e = node_none k (tree_at h.states id) v e
+
+along_none : (ks : List Key) (h : Heap) (of v : Rv) → IsNoObject of → read_along ks h of ≡ Ok v → IsNoObject v
+along_none [] h of v n e = let q : of ≡ v = cc in subst IsNoObject q n
+along_none (k ∷ ks) h of v n e = elim (get k h of) as (λ r. get k h of ≡ r → then_reads (read_along ks h) r ≡ Ok v → IsNoObject v) [
+  | Ok u ↦ λ p q. along_none ks h u v (get_none k h of u n p) q
+  | Err x ↦ λ p q. absurd (cc)
+] refl e
+
+pub frozen_along : (ks : List Key) (h : Heap) (id : ℕ) (v : Rv) → read_along ks h (Frozen id) ≡ Ok v → IsNoObject v
+frozen_along ks h id v e = along_none ks h (Frozen id) v tt e
+
+value_in : (i : ℕ) (t : Tree) (v : Rv) → value_at i (rows_of (given_content given.Frozen t)) ≡ Some v → IsNoObject v
+value_in i (prim k) v e = absurd (cc)
+value_in i (node id of es) v e = value_none i (given_table given.Frozen es) v (given_frozen es) e
+
+pub frozen_entry : (h : Heap) (id i : ℕ) (v : Rv) → entry_at h (Frozen id) i ≡ Some v → IsNoObject v
+frozen_entry h id i v e = value_in i (tree_at h.states id) v e
+
+-- ---- a frozen node stays
+pub frozen_shown : (g h : Heap) (id : ℕ) → Grows g h → shown h (Frozen id) ≡ shown g (Frozen id)
+frozen_shown g h id o = ap (λ (ts : List Tree). given_content given.Frozen (tree_at ts id)) o.states
+
+unmarked : (t : Tree) → is_marked (given_content given.Frozen t) ≡ false
+unmarked (prim k) = refl
+unmarked (node id of es) = refl
+
+pub frozen_unmarked : (h : Heap) (id : ℕ) → marked h (Frozen id) ≡ false
+frozen_unmarked h id = unmarked (tree_at h.states id)
+
+-- ---- `keys`
+listed_primitive : (ks : List Key) → AllPrimitive (listed ks)
+listed_primitive [] = tt
+listed_primitive (k ∷ ks) = (tt, listed_primitive ks)
+
+shown_primitive : (o : Option Content) (t : Rows) → then_read keys_shown o ≡ Ok t → AllPrimitive t
+shown_primitive None t e = absurd (cc)
+shown_primitive (Some c) t e = elim (not (is_object c.kind)) as (λ b. (if b then Err fault.TypeMismatch else Ok (listed (keys_of c.table))) ≡ Ok t → AllPrimitive t) [
+  | true ↦ λ z. absurd (cc)
+  | false ↦ λ z. let q : listed (keys_of c.table) ≡ t = cc in subst AllPrimitive q (listed_primitive (keys_of c.table))
+] e
+
+read_primitive : (h : Heap) (of : Rv) (t : Rows) → read keys_shown h of [] ≡ Ok t → AllPrimitive t
+read_primitive h of t e = elim (is_foreign h of || false) as (λ b. (if b then Err fault.Revoked else then_read keys_shown (shown h of)) ≡ Ok t → AllPrimitive t) [
+  | true ↦ λ z. absurd (cc)
+  | false ↦ λ z. shown_primitive (shown h of) t z
+] e
+
+-- the list that it makes
+record IsKeys (h g : Heap) (v : Rv) : Type 0 where
+  table : Rows
+  heap : g ≡ with_object (fresh kind.List table) h
+  answer : v ≡ next_object h
+  primitive : AllPrimitive table
+
+keys_in : (h g : Heap) (v : Rv) (r : Result Rows DraftFault) → ((t : Rows) → r ≡ Ok t → AllPrimitive t) → then_list h r ≡ Ok (g, v) → IsKeys h g v
+keys_in h g v (Ok t) a e =
+    let both : (with_object (fresh kind.List t) h, next_object h) ≡ (g, v) = cc in
+    record { table = t; heap = sym (ap (λ (y : Heap × Rv). y.0) both); answer = sym (ap (λ (y : Heap × Rv). y.1) both); primitive = a t refl }
+keys_in h g v (Err x) a e = absurd (cc)
+
+keys_made : (h g : Heap) (of v : Rv) → keys h of ≡ Ok (g, v) → IsKeys h g v
+keys_made h g of v e = keys_in h g v (read keys_shown h of []) (read_primitive h of) e
+
+older : (h : Heap) (c : Content) (n : ℕ) → n < h.next → (with_object c h).object n ≡ h.object n
+older h c n l = let yes : nat_lt n h.next ≡ true = grind (arith, l) in rw yes refl
+
+newest : (h : Heap) (c : Content) → shown (with_object c h) (next_object h) ≡ Some c
+newest h c =
+    let no : nat_lt h.next h.next ≡ false = grind arith in
+    let z : h.next - h.next ≡ 0 = omega arith in
+    rw (no, z) refl
+
+pub keys_objects : (h g : Heap) (of v : Rv) (n : ℕ) → keys h of ≡ Ok (g, v) → n < h.next → g.object n ≡ h.object n
+keys_objects h g of v n e l =
+    let k = keys_made h g of v e in
+    ap (λ (x : Heap). x.object n) k.heap ∙ older h (fresh kind.List k.table) n l
+
+list_made : (h g : Heap) (of v : Rv) → keys h of ≡ Ok (g, v) → (t : Rows) × (shown g v ≡ Some (fresh kind.List t)) × AllPrimitive t
+list_made h g of v e =
+    let k = keys_made h g of v e in
+    (k.table, (λ i. shown (k.heap i) (k.answer i)) ∙ newest h (fresh kind.List k.table), k.primitive)
+
+pub keys_list : (h g : Heap) (of v : Rv) → keys h of ≡ Ok (g, v) → AllPrimitive (table_of g v)
+keys_list h g of v e = let m = list_made h g of v e in subst AllPrimitive (sym (ap rows_of m.1)) m.2
+
+pub keys_unmarked : (h g : Heap) (of v : Rv) → keys h of ≡ Ok (g, v) → marked g v ≡ false
+keys_unmarked h g of v e = let m = list_made h g of v e in ap is_marked m.1
+
+below_same : (k : ℕ) (p q : ℕ → Bool) → ((n : ℕ) → n < k → p n ≡ q n) → any_below k p ≡ any_below k q
+below_same zero p q a = refl
+below_same (suc k) p q a =
+    let here = a k (omega arith) in
+    let rest = below_same k p q (λ n l. a n (omega arith)) in
+    λ i. here i || rest i
+
+made_written : (h : Heap) (c : Content) → IsSound h → any_written (with_object c h) ≡ any_written h
+made_written h c s = below_same (drafts h) (λ n. is_marked ((with_object c h).object n)) (λ n. is_marked (h.object n)) (λ n l. let low = s.copied in ap is_marked (older h c n (omega (arith, l, low))))
+
+pub keys_written : (h g : Heap) (of v : Rv) → IsSound h → keys h of ≡ Ok (g, v) → any_written g ≡ any_written h
+keys_written h g of v s e =
+    let k = keys_made h g of v e in
+    ap any_written k.heap ∙ made_written h (fresh kind.List k.table) s

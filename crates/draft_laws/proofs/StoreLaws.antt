@@ -1,0 +1,41 @@
+-- A store that was extended changes nothing.
+use Rattle.std.proofs.Common.{◌≡◌, ℕ, zero, suc, ◌≤◌, List, [], ◌∷◌, length, take, refl, ap, sym, ◌∙◌, subst, arith}
+use Rattle.std.specs.BTreeMap.{get}
+use Rattle.std.specs.Ordering.{nat_cmp}
+use Rattle.value_model.specs.declared.key.Key.TheVariants as key
+use Rattle.numbered.specs.Laws.{Extends}
+use Rattle.numbered.specs.Store.{IsStore}
+use Rattle.numbered.specs.Tree.{Tree, prim}
+use Rattle.run_heap.specs.Sound.{IsSound}
+use Rattle.draft_core.specs.declared.scope.Scope.{Scope}
+use Rattle.draft_core.specs.Changed.{heap_is}
+use Rattle.draft_core.specs.Seen.{heap, Stands, kept_heap}
+
+-- the first states are the same
+take_same : (n : ℕ) (ts us : List Tree) → n ≤ length ts → Extends ts us → take n us ≡ take n ts
+take_same zero ts us l e = refl
+take_same (suc n) [] us l e = absurd (omega arith)
+take_same (suc n) (t ∷ ts) [] l e = absurd (let m = e.longer in omega (arith, m))
+take_same (suc n) (t ∷ ts) (u ∷ us) l e =
+    let first : u ≡ t = e.same 0 (prim key.Null) (omega arith) in
+    let rest = take_same n ts us (omega arith) (record { longer = let m = e.longer in omega (arith, m); same = λ i d h. e.same (suc i) d (omega (arith, h)) }) in
+    λ j. first j ∷ rest j
+
+module _ (ts us : List Tree) (s : Scope) (st : Stands ts s) (e : Extends ts us) where
+  states_same : take s.len us ≡ take s.len ts
+  states_same = take_same s.len ts us st.long e
+
+  pub heap_extended : heap us s ≡ heap ts s
+  heap_extended =
+      sym (heap_is us s)
+      ∙ ap (λ (xs : List Tree). kept_heap s.number xs s.root s.drafts (get nat_cmp s.touched) s.later.items) states_same
+      ∙ heap_is ts s
+
+  pub stands_extended : IsStore us → Stands us s
+  stands_extended store = record {
+    store = store;
+    long = let a = st.long in let b = e.longer in omega (arith, a, b);
+    root = rw states_same st.root;
+    drafts = rw states_same st.drafts;
+    sound = subst IsSound (sym heap_extended) st.sound;
+  }

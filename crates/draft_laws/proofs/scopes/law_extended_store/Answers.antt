@@ -1,0 +1,8 @@
+use Rattle.draft_laws.proofs.StoreLaws.{heap_extended, stands_extended}
+use Rattle.draft_laws.proofs.scopes.law_extended_store.Goals as goal
+
+pub returns-clause-stands : goal.returns-clause-stands
+returns-clause-stands c ts us s st e store = stands_extended ts us s st e store
+
+pub returns-clause-heap : goal.returns-clause-heap
+returns-clause-heap c ts us s st e = heap_extended ts us s st e

@@ -1,0 +1,49 @@
+//! Laws of the calls that read, and of the paths of drafts.
+ghost use Rattle.std.specs.Prelude.{◌≡◌, ◌<◌, ℕ, true, false, List, Some, Ok, option_map};
+ghost use Rattle.value_model.specs.declared.key.Key.{Key as KeyModel};
+ghost use Rattle.numbered.specs.Store.{tree_at};
+ghost use Rattle.numbered.specs.Tree.{number, place};
+ghost use Rattle.run_heap.specs.declared.value.Rv.{Rv as Value};
+ghost use Rattle.run_heap.specs.declared.value.Rv.TheVariants.{Frozen};
+ghost use Rattle.run_heap.specs.Heap.{Heap, shown};
+ghost use Rattle.run_heap.specs.Operations.{any_written, frozen_at, keys, marked, original, slot_of, source, table_of, entry_at};
+ghost use Rattle.run_heap.specs.Places.{place_of};
+ghost use Rattle.run_heap.specs.Sound.{IsSound, Grows};
+ghost use Rattle.run_heap.specs.Values.{same};
+ghost use Rattle.draft_laws.specs.Walks.{subtree_at, read_along, IsNoObject, AllPrimitive};
+
+/// What is read below a frozen node, by any number of steps, is no object: it is frozen, a primitive or nothing.
+#[tactic(auto, using(crate::proofs::ReadLaws::frozen_along, crate::proofs::ReadLaws::frozen_entry))]
+pub fn law_frozen_reads()
+    ensures read { (ks : List KeyModel) (h : Heap) (id : ℕ) (v : Value) → read_along ks h (Frozen id) ≡ Ok v → IsNoObject v }
+    ensures entries { (h : Heap) (id i : ℕ) (v : Value) → entry_at h (Frozen id) i ≡ Some v → IsNoObject v }
+{}
+
+/// A frozen node shows in every later heap of the scope what it showed before, and is never marked.
+pub fn law_frozen_stays()
+    ensures shown { (g h : Heap) (id : ℕ) → Grows g h → shown h (Frozen id) ≡ shown g (Frozen id) }
+    ensures mark { (h : Heap) (id : ℕ) → marked h (Frozen id) ≡ false }
+{}
+
+/// `keys` answers a list of primitives and leaves every object as it was; it sets no mark.
+#[tactic(auto, using(crate::proofs::ReadLaws::keys_list))]
+pub fn law_keys()
+    ensures objects { (h g : Heap) (of v : Value) (n : ℕ) → keys h of ≡ Ok (g, v) → n < h.next → g.object n ≡ h.object n }
+    ensures list { (h g : Heap) (of v : Value) → keys h of ≡ Ok (g, v) → AllPrimitive (table_of g v) }
+    ensures mark { (h g : Heap) (of v : Value) → keys h of ≡ Ok (g, v) → marked g v ≡ false }
+    ensures drafts { (h g : Heap) (of v : Value) → IsSound h → keys h of ≡ Ok (g, v) → any_written g ≡ any_written h }
+{}
+
+/// The path of a draft leads in the opening state to the container that the draft was opened on.
+#[tactic(auto, using(crate::proofs::PathLaws::path_leads, crate::proofs::PathLaws::path_original, crate::proofs::PathLaws::path_source))]
+pub fn law_path_leads()
+    ensures place { (h : Heap) (v : Value) (path : List KeyModel) → IsSound h → place_of h v ≡ Some path → subtree_at path (tree_at h.states h.root) ≡ place (slot_of v) (tree_at h.states h.root) }
+    ensures original { (h : Heap) (v : Value) (path : List KeyModel) → IsSound h → place_of h v ≡ Some path → original h v ≡ Ok (frozen_at (subtree_at path (tree_at h.states h.root))) }
+    ensures source { (h : Heap) (v : Value) (path : List KeyModel) → IsSound h → place_of h v ≡ Some path → source h v ≡ option_map number (subtree_at path (tree_at h.states h.root)) }
+{}
+
+/// Two drafts of one heap with one path are the same draft.
+#[tactic(auto, using(crate::proofs::PathLaws::one_path))]
+pub fn law_one_path()
+    ensures { (h : Heap) (v w : Value) (path : List KeyModel) → IsSound h → place_of h v ≡ Some path → place_of h w ≡ Some path → same v w ≡ true }
+{}

@@ -1,0 +1,62 @@
+//! Laws of the calls that write.
+ghost use Rattle.std.specs.Prelude.{◌≡◌, ◌↔◌, ℕ, true, false, List, Option, Result, Ok, Err};
+ghost use Rattle.value_model.specs.declared.key.Key.{Key as KeyModel};
+ghost use Rattle.run_heap.specs.declared.fault.DraftFault.{DraftFault as Fault};
+ghost use Rattle.run_heap.specs.declared.value.Rv.{Rv as Value};
+ghost use Rattle.run_heap.specs.Answers.{Does, Leaves};
+ghost use Rattle.run_heap.specs.Heap.{Heap};
+ghost use Rattle.run_heap.specs.Operations.{Rows, Edit, edited, rewrite, table_of, put_at, remove_at, splice_at, set_key, empty};
+ghost use Rattle.run_heap.specs.Sound.{IsObject, IsSound};
+ghost use Rattle.run_heap.specs.Values.{same, same_tables};
+ghost use Rattle.draft_laws.specs.Written.{IsWritten};
+
+/// Values are the same exactly where they are equal, and so are tables.
+#[tactic(auto, using(crate::proofs::WriteLaws::same_values, crate::proofs::WriteLaws::same_rows))]
+pub fn law_same()
+    ensures values { (v w : Value) → (same v w ≡ true) ↔ (v ≡ w) }
+    ensures tables { (t u : Rows) → (same_tables t u ≡ true) ↔ (t ≡ u) }
+{}
+
+/// A call that may be refused writes one object of the heap, where it is accepted: the object is marked where its table differs
+/// now, and every other value shows what it did.
+pub fn law_accepted_writes()
+    ensures object { (e : Edit (Unit {0})) (h g : Heap) (of : Value) (vs : List Value) (x : Unit {0}) → IsSound h → edited e h of vs ≡ Ok (g, x) → IsObject h of }
+    ensures written { (e : Edit (Unit {0})) (h g : Heap) (of : Value) (vs : List Value) (x : Unit {0}) → edited e h of vs ≡ Ok (g, x) → IsWritten of h g }
+{}
+
+/// A call whose conditions rule every refusal out writes one object in the same way, and leaves it the table that is said.
+pub fn law_rewritten()
+    ensures written { (f : Rows → Rows) (h : Heap) (of : Value) → IsObject h of → IsWritten of h (rewrite f h of) }
+    ensures table { (f : Rows → Rows) (h : Heap) (of : Value) → IsSound h → IsObject h of → table_of (rewrite f h of) of ≡ f (table_of h of) }
+{}
+
+/// A call that was refused, or for which memory ran out, left the heap as it was.
+pub fn law_refused()
+    ensures does { (e : Fault) (old new : Heap) (said : Result (Heap × Unit {0}) Fault) → Does (Err e) old new said → new ≡ old }
+    ensures leaves { (e : Fault) (old new said : Heap) → Leaves (let r : Result (Unit {0}) Fault = Err e in r) old new said → new ≡ old }
+{}
+
+/// `put` writes one object.
+pub fn law_put()
+    ensures { (k : KeyModel) (v : Value) (h g : Heap) (of : Value) (x : Unit {0}) → put_at k v h of ≡ Ok (g, x) → IsWritten of h g }
+{}
+
+/// `remove` writes one object.
+pub fn law_remove()
+    ensures { (k : KeyModel) (h g : Heap) (of : Value) (x : Unit {0}) → remove_at k h of ≡ Ok (g, x) → IsWritten of h g }
+{}
+
+/// `splice_at` writes one object.
+pub fn law_splice()
+    ensures { (from to : ℕ) (items : List Value) (h : Heap) (of : Value) → IsObject h of → IsWritten of h (splice_at from to items h of) }
+{}
+
+/// `set_key` writes one object.
+pub fn law_set_key()
+    ensures { (k : KeyModel) (v : Option Value) (h : Heap) (of : Value) → IsObject h of → IsWritten of h (set_key k v h of) }
+{}
+
+/// `empty` writes one object.
+pub fn law_empty()
+    ensures { (h : Heap) (of : Value) → IsObject h of → IsWritten of h (empty h of) }
+{}
