@@ -1,6 +1,6 @@
 -- Where the path of a draft leads, and that no two drafts have one path.
 use Rattle.std.proofs.Common.{◌≡◌, ℕ, zero, suc, ◌+◌, ◌-◌, ◌<◌, ◌≤◌, List, [], ◌∷◌, refl, ap, sym, ◌∙◌, subst, arith, Bool, true, false, Ok, Less, Greater}
-use Rattle.std.specs.Prelude.{◌==◌, nat_lt, Option, Some, None, option_map, if◌then◌else◌, slice_get}
+use Rattle.std.specs.Prelude.{◌==◌, nat_lt, Option, Some, None, IsSomeAnd, if◌then◌else◌, slice_get}
 use Rattle.std.specs.FinMap.Entries.{is_sorted, below_all}
 use Rattle.std.specs.Ordering.{is_eq, ordering_reverse}
 use Rattle.value_model.specs.declared.key.Key.{Key}
@@ -250,33 +250,62 @@ module _ (h : Heap) (s : IsSound h) where
       ap (λ (x : List Key). subtree_at x (root_of h)) (sym p)
       ∙ leads r.slot r.slot (root_of h) (omega arith) l root_well
 
-  pub path_leads : (v : Rv) (path : List Key) → place_of h v ≡ Some path → subtree_at path (root_of h) ≡ place (slot_of v) (root_of h)
-  path_leads v path p =
-      let a = is_at h v path p in
-      object_leads a.object path a.inside a.along ∙ ap (λ (x : Rv). place (slot_of x) (root_of h)) (sym a.is)
+  -- the container that an object was opened on
+  opened_place : (scope n : ℕ) (o : Option Tree) (c : Option Content) → IsOpenedAs c (copied scope n o) → IsSomeAnd o (λ t. o ≡ Some t)
+  opened_place scope n o None i = absurd i
+  opened_place scope n None (Some c) i = absurd i
+  opened_place scope n (Some (prim k)) (Some c) i = absurd i
+  opened_place scope n (Some (node id of es)) (Some c) i = refl
+
+  opened_original : (scope n : ℕ) (o : Option Tree) (c : Option Content) → IsOpenedAs c (copied scope n o) → IsSomeAnd o (λ t. frozen_at o ≡ Frozen (number t))
+  opened_original scope n o None i = absurd i
+  opened_original scope n None (Some c) i = absurd i
+  opened_original scope n (Some (prim k)) (Some c) i = absurd i
+  opened_original scope n (Some (node id of es)) (Some c) i = refl
+
+  opened_source : (scope n : ℕ) (o : Option Tree) (c : Option Content) → IsOpenedAs c (copied scope n o) → IsSomeAnd o (λ t. source_in c ≡ Some (number t))
+  opened_source scope n o None i = absurd i
+  opened_source scope n None (Some c) i = absurd i
+  opened_source scope n (Some (prim k)) (Some c) i = absurd i
+  opened_source scope n (Some (node id of es)) (Some c) i = i.1
 
   original_object : (r : ObjRef) → r.scope ≡ h.scope → r.slot < drafts h → original h (Obj r) ≡ Ok (frozen_at (place r.slot (root_of h)))
   original_object r here l = rw (eq_true r.scope h.scope here, lt_true r.slot (drafts h) l) refl
 
-  pub path_original : (v : Rv) (path : List Key) → place_of h v ≡ Some path → original h v ≡ Ok (frozen_at (subtree_at path (root_of h)))
+  and_more : (o : Option Tree) (P Q : Tree → Type 0) → IsSomeAnd o P → ((t : Tree) → P t → Q t) → IsSomeAnd o Q
+  and_more None P Q p f = absurd p
+  and_more (Some t) P Q p f = f t p
+
+  at_path : (P : Tree → Type 0) (r : ObjRef) (path : List Key) → r.slot < drafts h → path_to r.slot (root_of h) ≡ path → IsSomeAnd (place r.slot (root_of h)) P → IsSomeAnd (subtree_at path (root_of h)) P
+  at_path P r path l q a = subst (λ (o : Option Tree). IsSomeAnd o P) (sym (object_leads r path l q)) a
+
+  -- what follows of the place that a draft is named after, follows of what stands at its path
+  leading : (v : Rv) (path : List Key) (P Q : Tree → Type 0) (a : IsAt h v path) → IsSomeAnd (place a.object.slot (root_of h)) P → ((t : Tree) → P t → Q t) → IsSomeAnd (subtree_at path (root_of h)) Q
+  leading v path P Q a x f = at_path Q a.object path a.inside a.along (and_more (place a.object.slot (root_of h)) P Q x f)
+
+  pub path_place : (v : Rv) (path : List Key) → place_of h v ≡ Some path → IsSomeAnd (subtree_at path (root_of h)) (λ t. place (slot_of v) (root_of h) ≡ Some t)
+  path_place v path p =
+      let a = is_at h v path p in
+      let n = a.object.slot in
+      leading v path (λ t. place n (root_of h) ≡ Some t) (λ t. place (slot_of v) (root_of h) ≡ Some t) a
+      (opened_place h.scope n (place n (root_of h)) (h.object n) (s.drafts n a.inside))
+      (λ t e. ap (λ (x : Rv). place (slot_of x) (root_of h)) a.is ∙ e)
+
+  pub path_original : (v : Rv) (path : List Key) → place_of h v ≡ Some path → IsSomeAnd (subtree_at path (root_of h)) (λ t. original h v ≡ Ok (Frozen (number t)))
   path_original v path p =
       let a = is_at h v path p in
-      ap (original h) a.is
-      ∙ original_object a.object a.scope a.inside
-      ∙ ap (λ (o : Option Tree). Ok (frozen_at o)) (sym (object_leads a.object path a.inside a.along))
+      let n = a.object.slot in
+      leading v path (λ t. frozen_at (place n (root_of h)) ≡ Frozen (number t)) (λ t. original h v ≡ Ok (Frozen (number t))) a
+      (opened_original h.scope n (place n (root_of h)) (h.object n) (s.drafts n a.inside))
+      (λ t e. ap (original h) a.is ∙ original_object a.object a.scope a.inside ∙ ap Ok e)
 
-  source_opened : (scope n : ℕ) (o : Option Tree) (c : Option Content) → IsOpenedAs c (copied scope n o) → source_in c ≡ option_map number o
-  source_opened scope n o None i = absurd i
-  source_opened scope n None (Some c) i = absurd i
-  source_opened scope n (Some (prim k)) (Some c) i = absurd i
-  source_opened scope n (Some (node id of es)) (Some c) i = i.1
-
-  pub path_source : (v : Rv) (path : List Key) → place_of h v ≡ Some path → source h v ≡ option_map number (subtree_at path (root_of h))
+  pub path_source : (v : Rv) (path : List Key) → place_of h v ≡ Some path → IsSomeAnd (subtree_at path (root_of h)) (λ t. source h v ≡ Some (number t))
   path_source v path p =
       let a = is_at h v path p in
-      ap (source h) a.is
-      ∙ source_opened h.scope a.object.slot (place a.object.slot (root_of h)) (h.object a.object.slot) (s.drafts a.object.slot a.inside)
-      ∙ ap (option_map number) (sym (object_leads a.object path a.inside a.along))
+      let n = a.object.slot in
+      leading v path (λ t. source_in (h.object n) ≡ Some (number t)) (λ t. source h v ≡ Some (number t)) a
+      (opened_source h.scope n (place n (root_of h)) (h.object n) (s.drafts n a.inside))
+      (λ t e. ap (source h) a.is ∙ e)
 
   pub one_path : (v w : Rv) (path : List Key) → place_of h v ≡ Some path → place_of h w ≡ Some path → same v w ≡ true
   one_path v w path p q =

@@ -6,6 +6,7 @@ use Rattle.value_model.specs.declared.key.Key.TheVariants as key
 use Rattle.value_model.specs.declared.words.Kind.{Kind}
 use Rattle.value_model.specs.declared.words.Kind.TheVariants as kind
 use Rattle.value_model.specs.Order.{key_cmp}
+use Rattle.numbered.specs.Store.{tree_at}
 use Rattle.numbered.specs.Tree.{Tree, Branches, prim, node, none, branch, children}
 use Rattle.run_heap.specs.declared.value.Rv.{Rv}
 use Rattle.run_heap.specs.declared.value.Rv.TheVariants.{Prim, Obj}
@@ -33,6 +34,10 @@ abbrev pub subtree_at : List Key → Tree → Option Tree
 subtree_at [] t = Some t
 subtree_at (k ∷ path) (prim j) = None
 subtree_at (k ∷ path) (node id of es) = then_subtree (subtree_at path) (child of k es)
+
+-- the state that a heap's scope was begun at
+abbrev pub opening_state : Heap → Tree
+opening_state h = tree_at h.states h.root
 
 -- ---- a row of reads
 abbrev pub then_reads : (Rv → Result Rv DraftFault) → Result Rv DraftFault → Result Rv DraftFault

@@ -1,16 +1,15 @@
 //! Laws of the calls that read, and of the paths of drafts.
-ghost use Rattle.std.specs.Prelude.{◌≡◌, ◌<◌, ℕ, true, false, List, Some, Ok, option_map};
+ghost use Rattle.std.specs.Prelude.{◌≡◌, ◌<◌, ℕ, true, false, List, Some, Ok, IsSomeAnd};
 ghost use Rattle.value_model.specs.declared.key.Key.{Key as KeyModel};
-ghost use Rattle.numbered.specs.Store.{tree_at};
 ghost use Rattle.numbered.specs.Tree.{number, place};
 ghost use Rattle.run_heap.specs.declared.value.Rv.{Rv as Value};
 ghost use Rattle.run_heap.specs.declared.value.Rv.TheVariants.{Frozen};
 ghost use Rattle.run_heap.specs.Heap.{Heap, shown};
-ghost use Rattle.run_heap.specs.Operations.{any_written, frozen_at, keys, marked, original, slot_of, source, table_of, entry_at};
+ghost use Rattle.run_heap.specs.Operations.{any_written, entry_at, keys, marked, original, slot_of, source, table_of};
 ghost use Rattle.run_heap.specs.Places.{place_of};
 ghost use Rattle.run_heap.specs.Sound.{IsSound, Grows};
 ghost use Rattle.run_heap.specs.Values.{same};
-ghost use Rattle.draft_laws.specs.Walks.{subtree_at, read_along, IsNoObject, AllPrimitive};
+ghost use Rattle.draft_laws.specs.Walks.{opening_state, subtree_at, read_along, IsNoObject, AllPrimitive};
 
 /// What is read below a frozen node, by any number of steps, is no object: it is frozen, a primitive or nothing.
 #[tactic(auto, using(crate::proofs::ReadLaws::frozen_along, crate::proofs::ReadLaws::frozen_entry))]
@@ -34,12 +33,13 @@ pub fn law_keys()
     ensures drafts { (h g : Heap) (of v : Value) → IsSound h → keys h of ≡ Ok (g, v) → any_written g ≡ any_written h }
 {}
 
-/// The path of a draft leads in the opening state to the container that the draft was opened on.
-#[tactic(auto, using(crate::proofs::PathLaws::path_leads, crate::proofs::PathLaws::path_original, crate::proofs::PathLaws::path_source))]
+/// The path of a draft leads in the opening state to the container that the draft was opened on: the place that the draft is
+/// named after, which `original` answers and which stays the draft's source.
+#[tactic(auto, using(crate::proofs::PathLaws::path_place, crate::proofs::PathLaws::path_original, crate::proofs::PathLaws::path_source))]
 pub fn law_path_leads()
-    ensures place { (h : Heap) (v : Value) (path : List KeyModel) → IsSound h → place_of h v ≡ Some path → subtree_at path (tree_at h.states h.root) ≡ place (slot_of v) (tree_at h.states h.root) }
-    ensures original { (h : Heap) (v : Value) (path : List KeyModel) → IsSound h → place_of h v ≡ Some path → original h v ≡ Ok (frozen_at (subtree_at path (tree_at h.states h.root))) }
-    ensures source { (h : Heap) (v : Value) (path : List KeyModel) → IsSound h → place_of h v ≡ Some path → source h v ≡ option_map number (subtree_at path (tree_at h.states h.root)) }
+    ensures place { (h : Heap) (v : Value) (path : List KeyModel) → IsSound h → place_of h v ≡ Some path → IsSomeAnd (subtree_at path (opening_state h)) (λ t. place (slot_of v) (opening_state h) ≡ Some t) }
+    ensures original { (h : Heap) (v : Value) (path : List KeyModel) → IsSound h → place_of h v ≡ Some path → IsSomeAnd (subtree_at path (opening_state h)) (λ t. original h v ≡ Ok (Frozen (number t))) }
+    ensures source { (h : Heap) (v : Value) (path : List KeyModel) → IsSound h → place_of h v ≡ Some path → IsSomeAnd (subtree_at path (opening_state h)) (λ t. source h v ≡ Some (number t)) }
 {}
 
 /// Two drafts of one heap with one path are the same draft.
