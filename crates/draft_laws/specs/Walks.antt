@@ -9,9 +9,10 @@ use Rattle.value_model.specs.Order.{key_cmp}
 use Rattle.numbered.specs.Store.{tree_at}
 use Rattle.numbered.specs.Tree.{Tree, Branches, prim, node, none, branch, children}
 use Rattle.run_heap.specs.declared.value.Rv.{Rv}
-use Rattle.run_heap.specs.declared.value.Rv.TheVariants.{Prim, Obj}
+use Rattle.run_heap.specs.declared.value.Rv.TheVariants.{Undefined, Prim, Obj}
 use Rattle.run_heap.specs.declared.fault.DraftFault.{DraftFault}
-use Rattle.run_heap.specs.Heap.{Heap}
+use Rattle.run_heap.specs.declared.value.Given.TheVariants as given
+use Rattle.run_heap.specs.Heap.{Heap, given_value}
 use Rattle.run_heap.specs.Operations.{get, Rows}
 
 -- ---- a path
@@ -48,6 +49,11 @@ then_reads f (Ok v) = f v
 abbrev pub read_along : List Key → Heap → Rv → Result Rv DraftFault
 read_along [] h v = Ok v
 read_along (k ∷ ks) h v = then_reads (read_along ks h) (get k h v)
+
+-- what stands somewhere in a state as it is read there: a container frozen, nothing as undefined
+abbrev pub frozen_value : Option Tree → Rv
+frozen_value None = Undefined
+frozen_value (Some t) = given_value given.Frozen t
 
 abbrev pub IsNoObject : Rv → Type 0
 IsNoObject (Obj r) = ⊥

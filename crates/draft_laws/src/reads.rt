@@ -1,6 +1,7 @@
 //! Laws of the calls that read, and of the paths of drafts.
 ghost use Rattle.std.specs.Prelude.{◌≡◌, ◌<◌, ℕ, true, false, List, Some, Ok, IsSomeAnd};
 ghost use Rattle.value_model.specs.declared.key.Key.{Key as KeyModel};
+ghost use Rattle.numbered.specs.Store.{IsNumber, tree_at};
 ghost use Rattle.numbered.specs.Tree.{number, place};
 ghost use Rattle.run_heap.specs.declared.value.Rv.{Rv as Value};
 ghost use Rattle.run_heap.specs.declared.value.Rv.TheVariants.{Frozen};
@@ -9,11 +10,13 @@ ghost use Rattle.run_heap.specs.Operations.{any_written, entry_at, keys, marked,
 ghost use Rattle.run_heap.specs.Places.{place_of};
 ghost use Rattle.run_heap.specs.Sound.{IsSound, Grows};
 ghost use Rattle.run_heap.specs.Values.{same};
-ghost use Rattle.draft_laws.specs.Walks.{opening_state, subtree_at, read_along, IsNoObject, AllPrimitive};
+ghost use Rattle.draft_laws.specs.Walks.{opening_state, subtree_at, frozen_value, read_along, IsNoObject, AllPrimitive};
 
-/// What is read below a frozen node, by any number of steps, is no object: it is frozen, a primitive or nothing.
-#[tactic(auto, using(crate::proofs::ReadLaws::frozen_along, crate::proofs::ReadLaws::frozen_entry))]
+/// What is read below a frozen node, by any number of steps, is what stands there in the state, and no object: it is frozen, a
+/// primitive or nothing.
+#[tactic(auto, using(crate::proofs::ReadLaws::frozen_state, crate::proofs::ReadLaws::frozen_along, crate::proofs::ReadLaws::frozen_entry))]
 pub fn law_frozen_reads()
+    ensures state { (ks : List KeyModel) (h : Heap) (id : ℕ) (v : Value) → IsSound h → IsNumber h.states id → read_along ks h (Frozen id) ≡ Ok v → v ≡ frozen_value (subtree_at ks (tree_at h.states id)) }
     ensures read { (ks : List KeyModel) (h : Heap) (id : ℕ) (v : Value) → read_along ks h (Frozen id) ≡ Ok v → IsNoObject v }
     ensures entries { (h : Heap) (id i : ℕ) (v : Value) → entry_at h (Frozen id) i ≡ Some v → IsNoObject v }
 {}

@@ -1,11 +1,12 @@
 //! Laws of the calls that write.
-ghost use Rattle.std.specs.Prelude.{◌≡◌, ◌↔◌, ℕ, true, false, List, Option, Result, Ok, Err};
+ghost use Rattle.std.specs.Prelude.{◌≡◌, ◌≢◌, ◌↔◌, ℕ, true, false, List, Option, Result, Ok, Err};
 ghost use Rattle.value_model.specs.declared.key.Key.{Key as KeyModel};
 ghost use Rattle.run_heap.specs.declared.fault.DraftFault.{DraftFault as Fault};
 ghost use Rattle.run_heap.specs.declared.value.Rv.{Rv as Value};
+ghost use Rattle.run_heap.specs.declared.value.Rv.TheVariants.{Undefined};
 ghost use Rattle.run_heap.specs.Answers.{Does, Leaves};
 ghost use Rattle.run_heap.specs.Heap.{Heap};
-ghost use Rattle.run_heap.specs.Operations.{Rows, Edit, edited, rewrite, table_of, put_at, remove_at, splice_at, set_key, empty};
+ghost use Rattle.run_heap.specs.Operations.{Rows, Edit, edited, rewrite, table_of, get, put_at, remove_at, splice_at, set_key, empty};
 ghost use Rattle.run_heap.specs.Sound.{IsObject, IsSound};
 ghost use Rattle.run_heap.specs.Values.{same, same_tables};
 ghost use Rattle.draft_laws.specs.Written.{IsWritten};
@@ -44,6 +45,18 @@ pub fn law_put()
 /// `remove` writes one object.
 pub fn law_remove()
     ensures { (k : KeyModel) (h g : Heap) (of : Value) (x : Unit {0}) → remove_at k h of ≡ Ok (g, x) → IsWritten of h g }
+{}
+
+/// After `put` the key reads as the value, and every other key as it did.
+pub fn law_put_reads()
+    ensures here { (k : KeyModel) (v : Value) (h g : Heap) (of : Value) (x : Unit {0}) → put_at k v h of ≡ Ok (g, x) → get k g of ≡ Ok v }
+    ensures others { (j k : KeyModel) (v : Value) (h g : Heap) (of : Value) (x : Unit {0}) → put_at k v h of ≡ Ok (g, x) → j ≢ k → get j g of ≡ get j h of }
+{}
+
+/// After `remove` the key reads as undefined, and every other key as it did.
+pub fn law_remove_reads()
+    ensures here { (k : KeyModel) (h g : Heap) (of : Value) (x : Unit {0}) → remove_at k h of ≡ Ok (g, x) → get k g of ≡ Ok Undefined }
+    ensures others { (j k : KeyModel) (h g : Heap) (of : Value) (x : Unit {0}) → remove_at k h of ≡ Ok (g, x) → j ≢ k → get j g of ≡ get j h of }
 {}
 
 /// `splice_at` writes one object.

@@ -4,4 +4,4 @@ use Rattle.draft_laws.proofs.WriteLaws.{edit_written}
 use Rattle.draft_laws.proofs.writes.law_put.Goals as goal
 
 pub returns : goal.returns
-returns c k v h g of x q = edit_written (putting k v) h g of x (v ∷ []) q
+returns c k v h g of x q = edit_written (putting k v) h g x of (v ∷ []) q
