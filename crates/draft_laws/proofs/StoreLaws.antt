@@ -1,10 +1,12 @@
 -- A store that was extended changes nothing.
-use Rattle.std.proofs.Common.{◌≡◌, ℕ, zero, suc, ◌≤◌, List, [], ◌∷◌, length, take, refl, ap, sym, ◌∙◌, subst, arith}
+use Rattle.std.proofs.lemmas.Grind.{common_steps}
+use Rattle.draft_core.specs.Kept.{states_are}
+use Rattle.std.proofs.Common.{◌≡◌, ℕ, zero, suc, ◌≤◌, List, [], ◌∷◌, length, take, refl, ap, sym, ◌∙◌, subst, arith, ◌++◌}
 use Rattle.std.specs.BTreeMap.{get}
 use Rattle.std.specs.Ordering.{nat_cmp}
 use Rattle.value_model.specs.declared.key.Key.TheVariants as key
-use Rattle.numbered.specs.Laws.{Extends}
-use Rattle.numbered.specs.Store.{IsStore}
+use Rattle.numbered.specs.Laws.{Extends, extends_take}
+use Rattle.numbered.specs.Store.{IsStore, AreNext}
 use Rattle.numbered.specs.Tree.{Tree, prim}
 use Rattle.run_heap.specs.Sound.{IsSound}
 use Rattle.draft_core.specs.declared.scope.Scope.{Scope}
@@ -38,4 +40,40 @@ module _ (ts us : List Tree) (s : Scope) (st : Stands ts s) (e : Extends ts us) 
     root = rw states_same st.root;
     drafts = rw states_same st.drafts;
     sound = subst IsSound (sym heap_extended) st.sound;
+  }
+
+-- ---- and neither does one that is cut back
+next_take : (n : ℕ) (ts more : List Tree) → AreNext ts more → AreNext ts (take n more)
+next_take zero ts more s = tt
+next_take (suc n) ts [] s = tt
+next_take (suc n) ts (t ∷ more) s = (s.0, next_take n (ts ++ t ∷ []) more s.1)
+
+taken : (n : ℕ) (ts : List Tree) → n ≤ length ts → length (take n ts) ≡ n
+taken n ts l = grind (arith, common_steps, l)
+
+module _ (ts : List Tree) (s : Scope) (mark : ℕ) (st : Stands ts s) (old : length (heap ts s).states ≤ mark) where
+  inside : s.len ≤ mark
+  inside =
+      let here = ap (λ (us : List Tree). length us) (states_are ts s) ∙ taken s.len ts st.long in
+      omega (arith, here, old)
+
+  long_enough : s.len ≤ length (take mark ts)
+  long_enough = let a = inside in let b = st.long in grind (arith, common_steps, a, b)
+
+  states_kept : take s.len (take mark ts) ≡ take s.len ts
+  states_kept = sym (take_same s.len (take mark ts) ts long_enough (extends_take mark ts))
+
+  pub heap_cut : heap (take mark ts) s ≡ heap ts s
+  heap_cut =
+      sym (heap_is (take mark ts) s)
+      ∙ ap (λ (xs : List Tree). kept_heap s.number xs s.root s.drafts (get nat_cmp s.touched) s.later.items) states_kept
+      ∙ heap_is ts s
+
+  pub stands_cut : Stands (take mark ts) s
+  stands_cut = record {
+    store = next_take mark [] ts st.store;
+    long = long_enough;
+    root = rw states_kept st.root;
+    drafts = rw states_kept st.drafts;
+    sound = subst IsSound (sym heap_cut) st.sound;
   }

@@ -7,8 +7,8 @@ mod scopes;
 mod writes;
 
 pub use reads::{law_frozen_reads, law_frozen_stays, law_keys, law_one_path, law_path_leads};
-pub use scopes::{law_extended_store, law_foreign_objects, law_revoked, take_two};
+pub use scopes::{law_cut_store, law_extended_store, law_foreign_objects, law_revoked, take_two};
 pub use writes::{
-    law_accepted_writes, law_empty, law_put, law_put_reads, law_refused, law_remove,
-    law_remove_reads, law_rewritten, law_same, law_set_key, law_splice,
+    law_accepted_writes, law_calls_write, law_put_reads, law_refused, law_remove_reads,
+    law_rewritten, law_same,
 };

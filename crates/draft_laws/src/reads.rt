@@ -1,11 +1,11 @@
 //! Laws of the calls that read, and of the paths of drafts.
-ghost use Rattle.std.specs.Prelude.{◌≡◌, ◌<◌, ℕ, true, false, List, Some, Ok, IsSomeAnd};
+ghost use Rattle.std.specs.Prelude.{◌≡◌, ◌↔◌, ◌<◌, ℕ, true, false, List, Some, Ok, IsSome, IsSomeAnd};
 ghost use Rattle.value_model.specs.declared.key.Key.{Key as KeyModel};
 ghost use Rattle.numbered.specs.Store.{IsNumber, tree_at};
 ghost use Rattle.numbered.specs.Tree.{number, place};
 ghost use Rattle.run_heap.specs.declared.value.Rv.{Rv as Value};
 ghost use Rattle.run_heap.specs.declared.value.Rv.TheVariants.{Frozen};
-ghost use Rattle.run_heap.specs.Heap.{Heap, shown};
+ghost use Rattle.run_heap.specs.Heap.{Heap, shown, is_draft};
 ghost use Rattle.run_heap.specs.Operations.{any_written, entry_at, keys, marked, original, slot_of, source, table_of};
 ghost use Rattle.run_heap.specs.Places.{place_of};
 ghost use Rattle.run_heap.specs.Sound.{IsSound, Grows};
@@ -45,8 +45,9 @@ pub fn law_path_leads()
     ensures source { (h : Heap) (v : Value) (path : List KeyModel) → IsSound h → place_of h v ≡ Some path → IsSomeAnd (subtree_at path (opening_state h)) (λ t. source h v ≡ Some (number t)) }
 {}
 
-/// Two drafts of one heap with one path are the same draft.
+/// Exactly the drafts have paths, and two drafts of one heap with one path are the same draft.
 #[tactic(auto, using(crate::proofs::PathLaws::one_path))]
 pub fn law_one_path()
-    ensures { (h : Heap) (v w : Value) (path : List KeyModel) → IsSound h → place_of h v ≡ Some path → place_of h w ≡ Some path → same v w ≡ true }
+    ensures drafts { (h : Heap) (v : Value) → IsSome (place_of h v) ↔ (is_draft h v ≡ true) }
+    ensures apart { (h : Heap) (v w : Value) (path : List KeyModel) → IsSound h → place_of h v ≡ Some path → place_of h w ≡ Some path → same v w ≡ true }
 {}

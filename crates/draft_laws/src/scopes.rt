@@ -1,5 +1,5 @@
 //! Laws of scopes, their stores and their numbers.
-ghost use Rattle.std.specs.Prelude.{◌≡◌, ◌≢◌, ◌<◌, ◌≤◌, ◌+◌, ◌^◌, true, List, [], ◌∷◌};
+ghost use Rattle.std.specs.Prelude.{◌≡◌, ◌≢◌, ◌<◌, ◌≤◌, ◌+◌, ◌^◌, ℕ, true, List, [], ◌∷◌, ◌++◌, length, take};
 ghost use Rattle.value_model.specs.declared.key.Key.{Key as KeyModel};
 ghost use Rattle.numbered.specs.Laws.{Extends};
 ghost use Rattle.numbered.specs.Store.{IsStore};
@@ -14,11 +14,18 @@ ghost use Rattle.draft_laws.specs.Foreign.{Revokes};
 
 use draft_core::{ScopeMint, ScopeTicket};
 
-/// What a scope stands for is the same over each store that extends the one it is used with, so a call's clauses hold for a
-/// later store too.
+/// What a scope stands for is the same over each store that extends the one it is used with, as one to which states were added,
+/// so a call's clauses hold for a later store too.
 pub fn law_extended_store()
     ensures stands { (ts us : List Tree) (s : ScopeModel) → Stands ts s → Extends ts us → IsStore us → Stands us s }
     ensures heap { (ts us : List Tree) (s : ScopeModel) → Stands ts s → Extends ts us → heap us s ≡ heap ts s }
+    ensures added { (ts more : List Tree) → Extends ts (ts ++ more) }
+{}
+
+/// It is the same over a store that was cut back, as long as the states that were there at the scope's beginning stay.
+pub fn law_cut_store()
+    ensures stands { (ts : List Tree) (s : ScopeModel) (mark : ℕ) → Stands ts s → length (heap ts s).states ≤ mark → Stands (take mark ts) s }
+    ensures heap { (ts : List Tree) (s : ScopeModel) (mark : ℕ) → Stands ts s → length (heap ts s).states ≤ mark → heap (take mark ts) s ≡ heap ts s }
 {}
 
 /// A call is refused as `Revoked` exactly where one of its operands is a reference of another scope.

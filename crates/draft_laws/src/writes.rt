@@ -18,8 +18,8 @@ pub fn law_same()
     ensures tables { (t u : Rows) → (same_tables t u ≡ true) ↔ (t ≡ u) }
 {}
 
-/// A call that may be refused writes one object of the heap, where it is accepted: the object is marked where its table differs
-/// now, and every other value shows what it did.
+/// A call that may be refused writes one object of the heap where it is accepted: the object is marked exactly where it was
+/// marked before or its table differs now, and every other value shows what it did.
 pub fn law_accepted_writes()
     ensures object { (e : Edit (Unit {0})) (h g : Heap) (of : Value) (vs : List Value) (x : Unit {0}) → IsSound h → edited e h of vs ≡ Ok (g, x) → IsObject h of }
     ensures written { (e : Edit (Unit {0})) (h g : Heap) (of : Value) (vs : List Value) (x : Unit {0}) → edited e h of vs ≡ Ok (g, x) → IsWritten of h g }
@@ -37,14 +37,13 @@ pub fn law_refused()
     ensures leaves { (e : Fault) (old new said : Heap) → Leaves (let r : Result (Unit {0}) Fault = Err e in r) old new said → new ≡ old }
 {}
 
-/// `put` writes one object.
-pub fn law_put()
-    ensures { (k : KeyModel) (v : Value) (h g : Heap) (of : Value) (x : Unit {0}) → put_at k v h of ≡ Ok (g, x) → IsWritten of h g }
-{}
-
-/// `remove` writes one object.
-pub fn law_remove()
-    ensures { (k : KeyModel) (h g : Heap) (of : Value) (x : Unit {0}) → remove_at k h of ≡ Ok (g, x) → IsWritten of h g }
+/// Each call that writes does so: `put` and `remove` where they are accepted, the others always.
+pub fn law_calls_write()
+    ensures put { (k : KeyModel) (v : Value) (h g : Heap) (of : Value) (x : Unit {0}) → put_at k v h of ≡ Ok (g, x) → IsWritten of h g }
+    ensures remove { (k : KeyModel) (h g : Heap) (of : Value) (x : Unit {0}) → remove_at k h of ≡ Ok (g, x) → IsWritten of h g }
+    ensures splice { (from to : ℕ) (items : List Value) (h : Heap) (of : Value) → IsObject h of → IsWritten of h (splice_at from to items h of) }
+    ensures set_key { (k : KeyModel) (v : Option Value) (h : Heap) (of : Value) → IsObject h of → IsWritten of h (set_key k v h of) }
+    ensures empty { (h : Heap) (of : Value) → IsObject h of → IsWritten of h (empty h of) }
 {}
 
 /// After `put` the key reads as the value, and every other key as it did.
@@ -57,19 +56,4 @@ pub fn law_put_reads()
 pub fn law_remove_reads()
     ensures here { (k : KeyModel) (h g : Heap) (of : Value) (x : Unit {0}) → remove_at k h of ≡ Ok (g, x) → get k g of ≡ Ok Undefined }
     ensures others { (j k : KeyModel) (h g : Heap) (of : Value) (x : Unit {0}) → remove_at k h of ≡ Ok (g, x) → j ≢ k → get j g of ≡ get j h of }
-{}
-
-/// `splice_at` writes one object.
-pub fn law_splice()
-    ensures { (from to : ℕ) (items : List Value) (h : Heap) (of : Value) → IsObject h of → IsWritten of h (splice_at from to items h of) }
-{}
-
-/// `set_key` writes one object.
-pub fn law_set_key()
-    ensures { (k : KeyModel) (v : Option Value) (h : Heap) (of : Value) → IsObject h of → IsWritten of h (set_key k v h of) }
-{}
-
-/// `empty` writes one object.
-pub fn law_empty()
-    ensures { (h : Heap) (of : Value) → IsObject h of → IsWritten of h (empty h of) }
 {}

@@ -1,3 +1,4 @@
+use Rattle.numbered.specs.Laws.{extends_append}
 use Rattle.draft_laws.proofs.StoreLaws.{heap_extended, stands_extended}
 use Rattle.draft_laws.proofs.scopes.law_extended_store.Goals as goal
 
@@ -6,3 +7,6 @@ returns-clause-stands c ts us s st e store = stands_extended ts us s st e store
 
 pub returns-clause-heap : goal.returns-clause-heap
 returns-clause-heap c ts us s st e = heap_extended ts us s st e
+
+pub returns-clause-added : goal.returns-clause-added
+returns-clause-added c ts more = extends_append ts more

@@ -1,7 +1,0 @@
-use Rattle.run_heap.specs.Operations.{putting}
-use Rattle.std.specs.Prelude.{[], ◌∷◌}
-use Rattle.draft_laws.proofs.WriteLaws.{edit_written}
-use Rattle.draft_laws.proofs.writes.law_put.Goals as goal
-
-pub returns : goal.returns
-returns c k v h g of x q = edit_written (putting k v) h g x of (v ∷ []) q
