@@ -1,4 +1,5 @@
 mod PathLaws
+mod ReadBackLaws
 mod ReadLaws
 mod StoreLaws
 mod WriteLaws

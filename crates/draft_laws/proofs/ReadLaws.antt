@@ -1,6 +1,6 @@
 -- What reads give, and what they leave.
 use Rattle.numbered.specs.Laws.{children_of, of_number}
-use Rattle.std.proofs.Common.{◌≡◌, ℕ, zero, suc, pos, negsuc, ◌-◌, ◌<◌, List, [], ◌∷◌, refl, ap, sym, ◌∙◌, subst, arith, Bool, true, false, not, Result, Ok, Err, cond}
+use Rattle.std.proofs.Common.{◌≡◌, ℕ, zero, suc, pos, negsuc, ◌-◌, List, [], ◌∷◌, refl, ap, sym, ◌∙◌, subst, arith, true, false, not, Result, Ok, Err, cond}
 use Rattle.std.specs.Prelude.{◌||◌, nat_lt, Option, Some, None, if◌then◌else◌, ⊤, slice_get}
 use Rattle.std.specs.FinMap.Entries.{find}
 use Rattle.std.specs.Ordering.{eq_by_cmp, is_eq}
@@ -21,9 +21,9 @@ use Rattle.run_heap.specs.declared.value.Rv.TheVariants.{Undefined, Prim, Obj, F
 use Rattle.run_heap.specs.declared.content.Content.{Content}
 use Rattle.run_heap.specs.declared.fault.DraftFault.{DraftFault}
 use Rattle.run_heap.specs.declared.fault.DraftFault.TheVariants as fault
-use Rattle.run_heap.specs.Heap.{Heap, drafts, shown, is_foreign, given_table, given_content, with_object, next_object, fresh, given_value}
-use Rattle.run_heap.specs.Operations.{Rows, or_undefined, value_at, entry, then_read, read, get, listed, keys_of, keys_shown, is_object, then_list, keys, is_marked, any_below, any_written, rows_of, table_of, marked, entry_at}
-use Rattle.run_heap.specs.Sound.{IsSound, Grows}
+use Rattle.run_heap.specs.Heap.{Heap, shown, is_foreign, given_table, given_content, with_object, next_object, fresh, given_value}
+use Rattle.run_heap.specs.Operations.{Rows, or_undefined, value_at, entry, then_read, read, get, listed, keys_of, keys_shown, is_object, then_list, keys, rows_of, table_of, entry_at}
+use Rattle.run_heap.specs.Sound.{IsSound}
 use Rattle.draft_laws.specs.Walks.{then_reads, read_along, IsNoObject, AllPrimitive, under, child, then_subtree, subtree_at, frozen_value}
 
 -- ---- what stands in a frozen node
@@ -162,17 +162,6 @@ frozen_state ks h id v s n e =
     let is = frozen_node t id (cell_again h.states (cell.Node id) s.store n) in
     along_state ks h t v s.store (of_number h.states id s.store n) (subst (λ (x : Rv). read_along ks h x ≡ Ok v) is e)
 
--- ---- a frozen node stays
-pub frozen_shown : (g h : Heap) (id : ℕ) → Grows g h → shown h (Frozen id) ≡ shown g (Frozen id)
-frozen_shown g h id o = ap (λ (ts : List Tree). given_content given.Frozen (tree_at ts id)) o.states
-
-unmarked : (t : Tree) → is_marked (given_content given.Frozen t) ≡ false
-unmarked (prim k) = refl
-unmarked (node id of es) = refl
-
-pub frozen_unmarked : (h : Heap) (id : ℕ) → marked h (Frozen id) ≡ false
-frozen_unmarked h id = unmarked (tree_at h.states id)
-
 -- ---- `keys`
 listed_primitive : (ks : List Key) → AllPrimitive (listed ks)
 listed_primitive [] = tt
@@ -207,19 +196,11 @@ keys_in h g v (Err x) a e = absurd (cc)
 keys_made : (h g : Heap) (of v : Rv) → keys h of ≡ Ok (g, v) → IsKeys h g v
 keys_made h g of v e = keys_in h g v (read keys_shown h of []) (read_primitive h of) e
 
-older : (h : Heap) (c : Content) (n : ℕ) → n < h.next → (with_object c h).object n ≡ h.object n
-older h c n l = let yes : nat_lt n h.next ≡ true = grind (arith, l) in rw yes refl
-
 newest : (h : Heap) (c : Content) → shown (with_object c h) (next_object h) ≡ Some c
 newest h c =
     let no : nat_lt h.next h.next ≡ false = grind arith in
     let z : h.next - h.next ≡ 0 = omega arith in
     rw (no, z) refl
-
-pub keys_objects : (h g : Heap) (of v : Rv) (n : ℕ) → keys h of ≡ Ok (g, v) → n < h.next → g.object n ≡ h.object n
-keys_objects h g of v n e l =
-    let k = keys_made h g of v e in
-    ap (λ (x : Heap). x.object n) k.heap ∙ older h (fresh kind.List k.table) n l
 
 list_made : (h g : Heap) (of v : Rv) → keys h of ≡ Ok (g, v) → (t : Rows) × (shown g v ≡ Some (fresh kind.List t)) × AllPrimitive t
 list_made h g of v e =
@@ -228,21 +209,3 @@ list_made h g of v e =
 
 pub keys_list : (h g : Heap) (of v : Rv) → keys h of ≡ Ok (g, v) → AllPrimitive (table_of g v)
 keys_list h g of v e = let m = list_made h g of v e in subst AllPrimitive (sym (ap rows_of m.1)) m.2
-
-pub keys_unmarked : (h g : Heap) (of v : Rv) → keys h of ≡ Ok (g, v) → marked g v ≡ false
-keys_unmarked h g of v e = let m = list_made h g of v e in ap is_marked m.1
-
-below_same : (k : ℕ) (p q : ℕ → Bool) → ((n : ℕ) → n < k → p n ≡ q n) → any_below k p ≡ any_below k q
-below_same zero p q a = refl
-below_same (suc k) p q a =
-    let here = a k (omega arith) in
-    let rest = below_same k p q (λ n l. a n (omega arith)) in
-    λ i. here i || rest i
-
-made_written : (h : Heap) (c : Content) → IsSound h → any_written (with_object c h) ≡ any_written h
-made_written h c s = below_same (drafts h) (λ n. is_marked ((with_object c h).object n)) (λ n. is_marked (h.object n)) (λ n l. let low = s.copied in ap is_marked (older h c n (omega (arith, l, low))))
-
-pub keys_written : (h g : Heap) (of v : Rv) → IsSound h → keys h of ≡ Ok (g, v) → any_written g ≡ any_written h
-keys_written h g of v s e =
-    let k = keys_made h g of v e in
-    ap any_written k.heap ∙ made_written h (fresh kind.List k.table) s

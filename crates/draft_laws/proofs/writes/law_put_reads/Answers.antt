@@ -1,4 +1,4 @@
-use Rattle.draft_laws.proofs.WriteLaws.{put_reads, put_leaves}
+use Rattle.draft_laws.proofs.ReadBackLaws.{put_reads, put_leaves}
 use Rattle.draft_laws.proofs.writes.law_put_reads.Goals as goal
 
 pub returns-clause-here : goal.returns-clause-here

@@ -1,4 +1,4 @@
-use Rattle.draft_laws.proofs.WriteLaws.{remove_reads, remove_leaves}
+use Rattle.draft_laws.proofs.ReadBackLaws.{remove_reads, remove_leaves}
 use Rattle.draft_laws.proofs.writes.law_remove_reads.Goals as goal
 
 pub returns-clause-here : goal.returns-clause-here
