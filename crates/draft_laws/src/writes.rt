@@ -1,5 +1,5 @@
 //! Laws of the calls that write.
-ghost use Rattle.std.specs.Prelude.{◌≡◌, ◌≢◌, ◌↔◌, ℕ, true, false, List, Option, Result, Ok, Err};
+ghost use Rattle.std.specs.Prelude.{◌≡◌, ◌≢◌, ◌↔◌, ℕ, true, false, List, Option, Result, Ok, IsErr};
 ghost use Rattle.value_model.specs.declared.key.Key.{Key as KeyModel};
 ghost use Rattle.run_heap.specs.declared.fault.DraftFault.{DraftFault as Fault};
 ghost use Rattle.run_heap.specs.declared.value.Rv.{Rv as Value};
@@ -21,8 +21,8 @@ pub fn law_same()
 /// A call that may be refused writes one object of the heap where it is accepted: the object is marked exactly where it was
 /// marked before or its table differs now, and every other value shows what it did.
 pub fn law_accepted_writes()
-    ensures object { (e : Edit (Unit {0})) (h g : Heap) (of : Value) (vs : List Value) (x : Unit {0}) → IsSound h → edited e h of vs ≡ Ok (g, x) → IsObject h of }
-    ensures written { (e : Edit (Unit {0})) (h g : Heap) (of : Value) (vs : List Value) (x : Unit {0}) → edited e h of vs ≡ Ok (g, x) → IsWritten of h g }
+    ensures object { (e : Edit (Unit {0})) (h g : Heap) (of : Value) (vs : List Value) → IsSound h → edited e h of vs ≡ Ok (g, tt) → IsObject h of }
+    ensures written { (e : Edit (Unit {0})) (h g : Heap) (of : Value) (vs : List Value) → edited e h of vs ≡ Ok (g, tt) → IsWritten of h g }
 {}
 
 /// A call whose conditions rule every refusal out writes one object in the same way, and leaves it the table that is said.
@@ -33,14 +33,14 @@ pub fn law_rewritten()
 
 /// A call that was refused, or for which memory ran out, left the heap as it was.
 pub fn law_refused()
-    ensures does { (e : Fault) (old new : Heap) (said : Result (Heap × Unit {0}) Fault) → Does (Err e) old new said → new ≡ old }
-    ensures leaves { (e : Fault) (old new said : Heap) → Leaves (let r : Result (Unit {0}) Fault = Err e in r) old new said → new ≡ old }
+    ensures does { (r : Result (Unit {0}) Fault) (old new : Heap) (said : Result (Heap × Unit {0}) Fault) → IsErr r → Does r old new said → new ≡ old }
+    ensures leaves { (r : Result (Unit {0}) Fault) (old new said : Heap) → IsErr r → Leaves r old new said → new ≡ old }
 {}
 
 /// Each call that writes does so: `put` and `remove` where they are accepted, the others always.
 pub fn law_calls_write()
-    ensures put { (k : KeyModel) (v : Value) (h g : Heap) (of : Value) (x : Unit {0}) → put_at k v h of ≡ Ok (g, x) → IsWritten of h g }
-    ensures remove { (k : KeyModel) (h g : Heap) (of : Value) (x : Unit {0}) → remove_at k h of ≡ Ok (g, x) → IsWritten of h g }
+    ensures put { (k : KeyModel) (v : Value) (h g : Heap) (of : Value) → put_at k v h of ≡ Ok (g, tt) → IsWritten of h g }
+    ensures remove { (k : KeyModel) (h g : Heap) (of : Value) → remove_at k h of ≡ Ok (g, tt) → IsWritten of h g }
     ensures splice { (from to : ℕ) (items : List Value) (h : Heap) (of : Value) → IsObject h of → IsWritten of h (splice_at from to items h of) }
     ensures set_key { (k : KeyModel) (v : Option Value) (h : Heap) (of : Value) → IsObject h of → IsWritten of h (set_key k v h of) }
     ensures empty { (h : Heap) (of : Value) → IsObject h of → IsWritten of h (empty h of) }
@@ -48,12 +48,12 @@ pub fn law_calls_write()
 
 /// After `put` the key reads as the value, and every other key as it did.
 pub fn law_put_reads()
-    ensures here { (k : KeyModel) (v : Value) (h g : Heap) (of : Value) (x : Unit {0}) → put_at k v h of ≡ Ok (g, x) → get k g of ≡ Ok v }
-    ensures others { (j k : KeyModel) (v : Value) (h g : Heap) (of : Value) (x : Unit {0}) → put_at k v h of ≡ Ok (g, x) → j ≢ k → get j g of ≡ get j h of }
+    ensures here { (k : KeyModel) (v : Value) (h g : Heap) (of : Value) → put_at k v h of ≡ Ok (g, tt) → get k g of ≡ Ok v }
+    ensures others { (j k : KeyModel) (v : Value) (h g : Heap) (of : Value) → put_at k v h of ≡ Ok (g, tt) → j ≢ k → get j g of ≡ get j h of }
 {}
 
 /// After `remove` the key reads as undefined, and every other key as it did.
 pub fn law_remove_reads()
-    ensures here { (k : KeyModel) (h g : Heap) (of : Value) (x : Unit {0}) → remove_at k h of ≡ Ok (g, x) → get k g of ≡ Ok Undefined }
-    ensures others { (j k : KeyModel) (h g : Heap) (of : Value) (x : Unit {0}) → remove_at k h of ≡ Ok (g, x) → j ≢ k → get j g of ≡ get j h of }
+    ensures here { (k : KeyModel) (h g : Heap) (of : Value) → remove_at k h of ≡ Ok (g, tt) → get k g of ≡ Ok Undefined }
+    ensures others { (j k : KeyModel) (h g : Heap) (of : Value) → remove_at k h of ≡ Ok (g, tt) → j ≢ k → get j g of ≡ get j h of }
 {}

@@ -4,4 +4,4 @@ use Rattle.draft_laws.proofs.WriteLaws.{edit_written}
 use Rattle.draft_laws.proofs.writes.law_calls_write.Goals as goal
 
 pub returns-clause-put : goal.returns-clause-put
-returns-clause-put c k v h g of x q = edit_written (putting k v) h g x of (v ∷ []) q
+returns-clause-put c k v h g of q = edit_written (putting k v) h g tt of (v ∷ []) q
