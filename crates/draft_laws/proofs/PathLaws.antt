@@ -1,5 +1,5 @@
 -- Where the path of a draft leads, and that no two drafts have one path.
-use Rattle.std.proofs.Common.{◌≡◌, ℕ, zero, suc, ◌+◌, ◌-◌, ◌<◌, ◌≤◌, List, [], ◌∷◌, refl, ap, sym, ◌∙◌, subst, arith, Bool, true, false, Ok, Less, Greater}
+use Rattle.std.proofs.Common.{pos, ◌≡◌, ℕ, zero, suc, ◌+◌, ◌-◌, ◌<◌, ◌≤◌, List, [], ◌∷◌, refl, ap, sym, ◌∙◌, subst, arith, Bool, true, false, Ok, Less, Greater, Equal}
 use Rattle.std.specs.Prelude.{◌==◌, nat_lt, Option, Some, None, IsSomeAnd, if◌then◌else◌, slice_get}
 use Rattle.std.specs.FinMap.Entries.{is_sorted, below_all}
 use Rattle.std.specs.Ordering.{is_eq, ordering_reverse}
@@ -7,12 +7,12 @@ use Rattle.value_model.specs.declared.key.Key.{Key}
 use Rattle.value_model.specs.declared.key.Key.TheVariants as key
 use Rattle.value_model.specs.declared.words.Kind.{Kind}
 use Rattle.value_model.specs.declared.words.Kind.TheVariants as kind
-use Rattle.value_model.specs.Order.{key_cmp, key_total}
+use Rattle.value_model.specs.Order.{key_cmp, key_total, key_exact}
 use Rattle.value_model.specs.Places.{ascends_at}
 use Rattle.value_model.specs.Plain.{list_of}
 use Rattle.value_model.specs.Search.{left_true, right_true, less_from_test}
 use Rattle.value_model.specs.Well.{well, all_well, fits, all_fit}
-use Rattle.numbered.specs.Laws.{place_in_child, well_at}
+use Rattle.numbered.specs.Laws.{before_more, before_le, place_in_child, well_at}
 use Rattle.numbered.specs.Store.{tree_at}
 use Rattle.numbered.specs.Tree.{Tree, Branches, prim, node, none, branch, plain, plains, number, containers, containers_in, place, children, before}
 use Rattle.node_store.specs.Nodes.{keys_in}
@@ -26,7 +26,7 @@ use Rattle.run_heap.specs.Operations.{frozen_at, original, slot_of, source, sour
 use Rattle.run_heap.specs.Places.{step, path_to, path_in, place_of}
 use Rattle.run_heap.specs.Sound.{IsSound, IsOpenedAs}
 use Rattle.run_heap.specs.Values.{same}
-use Rattle.draft_laws.specs.Walks.{under, child, then_subtree, subtree_at}
+use Rattle.draft_laws.specs.Walks.{IsNode, IsPathOfDraft, under, child, then_subtree, subtree_at}
 
 -- ---- the entry in which a place lies
 record Entry (n : ℕ) (es : Branches) : Type 0 where
@@ -202,6 +202,83 @@ one_place (suc fuel) (suc m) (suc n) (node id of es) f a b w p =
     let deep = one_place fuel (m - before x.index es) (n - before x.index es) x.tree (omega (arith, f)) (omega (arith, a0, a1)) (omega (arith, b0, b1, before_same, tree_same)) (well_child es x.index x.tree o.deep x.there) here in
     omega (arith, deep, a0, b0, before_same)
 
+-- ---- each container place has a path
+-- the entry that a step leads to
+record Stepped (of : Kind) (k : Key) (es : Branches) (v : Tree) : Type 0 where
+  index : ℕ
+  name : Key
+  named : slice_get (keys_in es) index ≡ Some name
+  there : slice_get (children es) index ≡ Some v
+  is : step of index name ≡ k
+
+-- a key is found under itself
+record Found (k : Key) (es : Branches) (v : Tree) : Type 0 where
+  index : ℕ
+  named : slice_get (keys_in es) index ≡ Some k
+  there : slice_get (children es) index ≡ Some v
+
+tied : (j k : Key) → is_eq (key_cmp j k) ≡ true → j ≡ k
+tied j k h = elim (key_cmp j k) as (λ o. key_cmp j k ≡ o → is_eq o ≡ true → j ≡ k) [
+  | Less ↦ λ p q. absurd (cc)
+  | Equal ↦ λ p q. key_exact j k p
+  | Greater ↦ λ p q. absurd (cc)
+] refl h
+
+found_under : (k : Key) (es : Branches) (v : Tree) → under k es ≡ Some v → Found k es v
+found_under k none v h = absurd (cc)
+found_under k (branch j w es) v h = elim (is_eq (key_cmp k j)) as (λ b. is_eq (key_cmp k j) ≡ b → (if b then Some w else under k es) ≡ Some v → Found k (branch j w es) v) [
+  | true ↦ λ p q. record { index = 0; named = ap Some (sym (tied k j p)); there = q }
+  | false ↦ λ p q. let f = found_under k es v q in record { index = suc f.index; named = f.named; there = f.there }
+] refl h
+
+keyed_step : (of : Kind) (k : Key) (es : Branches) (v : Tree) → ((i : ℕ) → step of i k ≡ k) → under k es ≡ Some v → Stepped of k es v
+keyed_step of k es v own h = let f = found_under k es v h in record { index = f.index; name = k; named = f.named; there = f.there; is = own f.index }
+
+listed_step : (i : ℕ) (es : Branches) (v : Tree) → slice_get (children es) i ≡ Some v → (k : Key) × (slice_get (keys_in es) i ≡ Some k)
+listed_step i none v h = absurd (cc)
+listed_step zero (branch k w es) v h = (k, refl)
+listed_step (suc i) (branch k w es) v h = listed_step i es v h
+
+stepped : (of : Kind) (k : Key) (es : Branches) (v : Tree) → child of k es ≡ Some v → Stepped of k es v
+stepped kind.Obj (key.Text s) es v h = keyed_step kind.Obj (key.Text s) es v (λ i. refl) h
+stepped kind.List (key.Int (pos i)) es v h = let j = listed_step i es v h in record { index = i; name = j.0; named = j.1; there = h; is = refl }
+stepped kind.Map k es v h = keyed_step kind.Map k es v (λ i. refl) h
+stepped _ _ es v h = absurd (cc)
+
+record Named (path : List Key) (t : Tree) : Type 0 where
+  name : ℕ
+  inside : name < containers t
+  is : path_to name t ≡ path
+
+root_named : (t : Tree) → IsNode t → Named [] t
+root_named (prim k) n = absurd n
+root_named (node id of es) n = record { name = 0; inside = omega arith; is = refl }
+
+child_named : (id : ℕ) (of : Kind) (k : Key) (es : Branches) (v : Tree) (path : List Key) → Stepped of k es v → Named path v → Named (k ∷ path) (node id of es)
+child_named id of k es v path e d =
+    let m = before e.index es + d.name in
+    let inside = d.inside in
+    let more = before_more e.index es v e.there in
+    let all = before_le (suc e.index) es in
+    let z : 0 + e.index ≡ e.index = omega arith in
+    let y : m - before e.index es ≡ d.name = omega arith in
+    record {
+      name = suc m;
+      inside = omega (arith, inside, more, all);
+      is =
+          path_entry of 0 e.index m es e.name v e.named e.there (omega arith) (omega (arith, inside))
+          ∙ (λ i. step of (z i) e.name ∷ path_to (y i) v)
+          ∙ (λ i. e.is i ∷ d.is i);
+    }
+
+path_named : (path : List Key) (t u : Tree) → subtree_at path t ≡ Some u → IsNode u → Named path t
+path_named [] t u h n = let e : u ≡ t = cc in root_named t (subst IsNode e n)
+path_named (k ∷ path) (prim j) u h n = absurd (cc)
+path_named (k ∷ path) (node id of es) u h n = elim (child of k es) as (λ c. child of k es ≡ c → then_subtree (subtree_at path) c ≡ Some u → Named (k ∷ path) (node id of es)) [
+  | None ↦ λ p q. absurd (cc)
+  | Some v ↦ λ p q. child_named id of k es v path (stepped of k es v p) (path_named path v u q n)
+] refl h
+
 -- ---- drafts
 abbrev root_of : Heap → Tree
 root_of h = tree_at h.states h.root
@@ -315,3 +392,10 @@ module _ (h : Heap) (s : IsSound h) where
       let one = eq_true a.object.scope b.object.scope (a.scope ∙ sym b.scope) in
       let two = eq_true a.object.slot b.object.slot n in
       rw (a.is, b.is, one, two) refl
+
+pub each_container : (h : Heap) (path : List Key) (t : Tree) → subtree_at path (root_of h) ≡ Some t → IsNode t → IsPathOfDraft h path
+each_container h path t e n =
+    let d = path_named path (root_of h) t e n in
+    let v : Rv = Obj (record { scope = h.scope; slot = d.name }) in
+    let here : is_draft h v ≡ true = rw (eq_true h.scope h.scope refl, lt_true d.name (drafts h) d.inside) refl in
+    (v, rw here (ap (λ (p : List Key). let o : Option (List Key) = Some p in o) d.is))

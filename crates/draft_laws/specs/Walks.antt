@@ -1,5 +1,5 @@
 -- What stands at a path of a numbered state, and what a row of reads gives.
-use Rattle.std.specs.Prelude.{pos, Option, Some, None, List, [], ◌∷◌, slice_get, if◌then◌else◌, Result, Ok, Err, ⊤}
+use Rattle.std.specs.Prelude.{◌≡◌, pos, Option, Some, None, List, [], ◌∷◌, slice_get, if◌then◌else◌, Result, Ok, Err, ⊤}
 use Rattle.std.specs.Ordering.{is_eq}
 use Rattle.value_model.specs.declared.key.Key.{Key}
 use Rattle.value_model.specs.declared.key.Key.TheVariants as key
@@ -14,6 +14,7 @@ use Rattle.run_heap.specs.declared.fault.DraftFault.{DraftFault}
 use Rattle.run_heap.specs.declared.value.Given.TheVariants as given
 use Rattle.run_heap.specs.Heap.{Heap, given_value}
 use Rattle.run_heap.specs.Operations.{get, Rows}
+use Rattle.run_heap.specs.Places.{place_of}
 
 -- ---- a path
 abbrev pub under : Key → Branches → Option Tree
@@ -39,6 +40,14 @@ subtree_at (k ∷ path) (node id of es) = then_subtree (subtree_at path) (child 
 -- the state that a heap's scope was begun at
 abbrev pub opening_state : Heap → Tree
 opening_state h = tree_at h.states h.root
+
+abbrev pub IsNode : Tree → Type 0
+IsNode (prim k) = ⊥
+IsNode (node id of es) = ⊤
+
+-- some draft has this path
+abbrev pub IsPathOfDraft : Heap → List Key → Type 0
+IsPathOfDraft h path = (v : Rv) × (place_of h v ≡ Some path)
 
 -- ---- a row of reads
 abbrev pub then_reads : (Rv → Result Rv DraftFault) → Result Rv DraftFault → Result Rv DraftFault

@@ -2,7 +2,7 @@
 ghost use Rattle.std.specs.Prelude.{◌≡◌, ◌↔◌, ◌<◌, ℕ, true, false, List, Some, Ok, IsSome, IsSomeAnd};
 ghost use Rattle.value_model.specs.declared.key.Key.{Key as KeyModel};
 ghost use Rattle.numbered.specs.Store.{IsNumber, tree_at};
-ghost use Rattle.numbered.specs.Tree.{number, place};
+ghost use Rattle.numbered.specs.Tree.{Tree, number, place};
 ghost use Rattle.run_heap.specs.declared.value.Rv.{Rv as Value};
 ghost use Rattle.run_heap.specs.declared.value.Rv.TheVariants.{Frozen};
 ghost use Rattle.run_heap.specs.Heap.{Heap, shown, is_draft};
@@ -10,7 +10,7 @@ ghost use Rattle.run_heap.specs.Operations.{any_written, entry_at, keys, marked,
 ghost use Rattle.run_heap.specs.Places.{place_of};
 ghost use Rattle.run_heap.specs.Sound.{IsSound, Grows};
 ghost use Rattle.run_heap.specs.Values.{same};
-ghost use Rattle.draft_laws.specs.Walks.{opening_state, subtree_at, frozen_value, read_along, IsNoObject, AllPrimitive};
+ghost use Rattle.draft_laws.specs.Walks.{opening_state, subtree_at, frozen_value, read_along, IsNoObject, AllPrimitive, IsNode, IsPathOfDraft};
 
 /// What is read below a frozen node, by any number of steps, is what stands there in the state, and no object: it is frozen, a
 /// primitive or nothing.
@@ -50,4 +50,9 @@ pub fn law_path_leads()
 pub fn law_one_path()
     ensures drafts { (h : Heap) (v : Value) → IsSome (place_of h v) ↔ (is_draft h v ≡ true) }
     ensures apart { (h : Heap) (v w : Value) (path : List KeyModel) → IsSound h → place_of h v ≡ Some path → place_of h w ≡ Some path → same v w ≡ true }
+{}
+
+/// Each container in the opening state has a draft: where a path leads to a container, it is the path of some draft.
+pub fn law_each_container()
+    ensures { (h : Heap) (path : List KeyModel) (t : Tree) → IsSound h → subtree_at path (opening_state h) ≡ Some t → IsNode t → IsPathOfDraft h path }
 {}
