@@ -1,12 +1,20 @@
 use run_heap::{DraftFault, Rv};
 use std::alloc::{AllocError, Global};
-use value_json::json_of_key;
+use value_json::write_value;
+use value_model::Key;
+use values::Val;
+
+/// A key's JSON.
+pub fn json_of(alloc: Global, key: &Key) -> Result<String, AllocError> {
+    let text = write_value(alloc, &Val::primitive(key.copy(alloc)?))?;
+    String::from_str(alloc, text.as_str())
+}
 
 /// A value as a text: a primitive's JSON, an object's name behind `@`, a frozen node's number behind `#`.
 pub fn text_of(alloc: Global, v: &Rv) -> Result<String, AllocError> {
     match v {
         Rv::Undefined => String::from_str(alloc, "undefined"),
-        Rv::Prim(key) => json_of_key(alloc, key)?.to_string(alloc),
+        Rv::Prim(key) => json_of(alloc, key),
         Rv::Obj(object) => {
             let slot = object.slot;
             format!(in alloc; "@{slot}")
