@@ -4,7 +4,7 @@ use Rattle.run_heap.specs.Operations.{with_plain}
 use Rattle.run_heap.specs.Sound.{Fits}
 use Rattle.draft_core.specs.Seen.{heap}
 use Rattle.draft_runs.specs.Held.{all_grow, plain_fits}
-use Rattle.draft_runs.proofs.fresh.Run.plain.Goals as goal
+use Rattle.draft_runs.proofs.run.Run.plain.Goals as goal
 
 pub keep-requires-clause-owned : goal.keep-requires-clause-owned
 keep-requires-clause-owned c = all_grow (heap c.args.self.now.store c.args.self.now.scope) (heap c.args.self.now.store c.plain_of.new.self) c.args.self.now.values.items (c.plain_of.ensures.grows c.args.self.now.store c.requires.stands) c.requires.owned
