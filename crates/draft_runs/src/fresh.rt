@@ -5,8 +5,10 @@ ghost use Rattle.run_heap.specs.Sound.{AllOwned};
 ghost use Rattle.draft_core.specs.Seen.{heap, Stands};
 
 use crate::run::Run;
+use crate::texts::not_called;
 use crate::words::Operand;
 use std::alloc::{AllocError, Global};
+use value_model::Kind;
 use values::Val;
 
 impl Run {
@@ -53,6 +55,62 @@ impl Run {
         ensures owned { AllOwned (heap self.new.store self.new.scope) self.new.values.items }
     {
         let answer = self.scope.plain_of(alloc, v)?;
+        self.keep(alloc, Ok(answer))
+    }
+
+    /// `new_of`.
+    pub fn new_of(&mut self, alloc: Global, kind: Kind) -> Result<String, AllocError>
+        requires stands { Stands self.old.store self.old.scope }
+        requires owned { AllOwned (heap self.old.store self.old.scope) self.old.values.items }
+        ensures stands { Stands self.new.store self.new.scope }
+        ensures owned { AllOwned (heap self.new.store self.new.scope) self.new.values.items }
+    {
+        let answer = self.scope.new_of(alloc, kind)?;
+        self.keep(alloc, Ok(answer))
+    }
+
+    /// `list_of`, or `not called` where a list may not hold one of the values.
+    pub fn list_of(&mut self, alloc: Global, items: &[Operand]) -> Result<String, AllocError>
+        requires stands { Stands self.old.store self.old.scope }
+        requires owned { AllOwned (heap self.old.store self.old.scope) self.old.values.items }
+        ensures stands { Stands self.new.store self.new.scope }
+        ensures owned { AllOwned (heap self.new.store self.new.scope) self.new.values.items }
+    {
+        let Some(items) = self.stored(alloc, items)? else {
+            return not_called(alloc);
+        };
+        let answer = self.scope.list_of(alloc, &self.store, &items)?;
+        self.keep(alloc, Ok(answer))
+    }
+
+    /// `splice_with`, or `not called` where a condition of it doesn't hold.
+    pub fn splice_with(
+        &mut self,
+        alloc: Global,
+        of: &Operand,
+        from: usize,
+        to: usize,
+        items: &[Operand],
+        others: &[Operand],
+    ) -> Result<String, AllocError>
+        requires stands { Stands self.old.store self.old.scope }
+        requires owned { AllOwned (heap self.old.store self.old.scope) self.old.values.items }
+        ensures stands { Stands self.new.store self.new.scope }
+        ensures owned { AllOwned (heap self.new.store self.new.scope) self.new.values.items }
+    {
+        let of = self.value(alloc, of)?;
+        let Some(items) = self.stored(alloc, items)? else {
+            return not_called(alloc);
+        };
+        let Some(others) = self.stored(alloc, others)? else {
+            return not_called(alloc);
+        };
+        if !self.may_splice(&of, from, to) {
+            return not_called(alloc);
+        }
+        let answer = self
+            .scope
+            .splice_with(alloc, &self.store, &of, from, to, &items, &others)?;
         self.keep(alloc, Ok(answer))
     }
 }

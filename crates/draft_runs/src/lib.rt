@@ -1,8 +1,11 @@
 //! Calls on one run's objects by numbers of earlier answers, for examples and for long sequences of calls.
 #![tactic(auto)]
 
+mod edits;
 mod fault;
 mod fresh;
+mod guards;
+mod looks;
 mod reads;
 mod run;
 mod texts;

@@ -53,4 +53,25 @@ impl Run {
         let b = self.value(alloc, b)?;
         Ok(self.scope.same(&a, &b))
     }
+
+    /// `owns`.
+    pub fn owns(&self, alloc: Global, v: &Operand) -> Result<bool, AllocError>
+        requires { AllOwned (heap self.now.store self.now.scope) self.now.values.items }
+    {
+        let v = self.value(alloc, v)?;
+        Ok(self.scope.owns(&v))
+    }
+
+    /// `is_draft`.
+    pub fn is_draft(&self, alloc: Global, v: &Operand) -> Result<bool, AllocError>
+        requires { AllOwned (heap self.now.store self.now.scope) self.now.values.items }
+    {
+        let v = self.value(alloc, v)?;
+        Ok(self.scope.is_draft(&v))
+    }
+
+    /// `any_written`.
+    pub fn any_written(&self) -> bool {
+        self.scope.any_written()
+    }
 }

@@ -96,7 +96,11 @@ impl Run {
     }
 
     /// Keeps an answer, and says it.
-    pub fn keep(&mut self, alloc: Global, answer: Result<Rv, DraftFault>) -> Result<String, AllocError>
+    pub fn keep(
+        &mut self,
+        alloc: Global,
+        answer: Result<Rv, DraftFault>,
+    ) -> Result<String, AllocError>
         requires stands { Stands self.old.store self.old.scope }
         requires owned { AllOwned (heap self.old.store self.old.scope) self.old.values.items }
         requires fits { IfOk answer (λ v. Fits (heap self.old.store self.old.scope) v) }

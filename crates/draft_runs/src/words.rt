@@ -4,7 +4,7 @@ ghost use Rattle.value_model.specs.Limits.{value_limit, state_limit};
 
 use crate::fault::WordFault;
 use std::alloc::Global;
-use value_checks::check_state;
+use value_checks::{check_state, check_value};
 use value_json::read_value;
 use value_model::{Key, Kind};
 use values::{Node, Val};
@@ -56,7 +56,11 @@ pub fn kind_of(word: &str) -> Result<Kind, WordFault> {
 pub fn value_of(alloc: Global, text: &str) -> Result<Val, WordFault>
     ensures { IfOk result (λ v. value_limit v ≡ None) }
 {
-    Ok(read_value(alloc, text.as_bytes())?)
+    let v = read_value(alloc, text.as_bytes())?;
+    match check_value(&v) {
+        Ok(()) => Ok(v),
+        Err(_) => Err(WordFault::Unexpected),
+    }
 }
 
 /// The state that a text is as JSON, `Unexpected` where it is none.
