@@ -1,5 +1,5 @@
 -- What the conditions of calls ask, and what shows it.
-use Rattle.std.proofs.Common.{◌≡◌, ℕ, ◌<◌, ◌≤◌, List, [], ◌∷◌, ◌++◌, refl, sym, subst, arith, true, false}
+use Rattle.std.proofs.Common.{◌≡◌, ℕ, ◌<◌, ◌≤◌, List, [], ◌∷◌, ◌++◌, refl, sym, arith, true}
 use Rattle.std.specs.Prelude.{◌≢◌, ◌==◌, not, Option, Some, None, IfSome}
 use Rattle.value_model.specs.declared.key.Key.{Key}
 use Rattle.value_model.specs.declared.words.Kind.{Kind}
@@ -8,8 +8,8 @@ use Rattle.run_heap.specs.declared.value.ObjRef.{ObjRef}
 use Rattle.run_heap.specs.declared.value.Rv.{Rv}
 use Rattle.run_heap.specs.declared.value.Rv.TheVariants.{Undefined, Prim, Obj, Frozen}
 use Rattle.run_heap.specs.Heap.{Heap}
-use Rattle.run_heap.specs.Operations.{owns, kind_of, count, is_list}
-use Rattle.run_heap.specs.Sound.{Fits, Owned, IsStored, AllStored, IsObject, IsContainer, may_stand}
+use Rattle.run_heap.specs.Operations.{owns, kind_of, count}
+use Rattle.run_heap.specs.Sound.{Owned, IsStored, AllStored, IsObject, IsContainer}
 use Rattle.draft_core.specs.Writes.{MayStand}
 
 -- an object, a Map or a Set, frozen or not
