@@ -1,10 +1,18 @@
 //! Calls on one run's objects by numbers of earlier answers, for examples and for long sequences of calls.
 #![tactic(auto)]
 
-#[cfg(test)]
-mod examples;
+mod edits;
+mod fault;
+mod fresh;
+mod guards;
+mod looks;
+mod reads;
 mod run;
 mod texts;
+mod words;
+mod writes;
 
+pub use fault::WordFault;
 pub use run::Run;
-pub use texts::{name_of, text_of};
+pub use texts::{json_of, name_of, text_of};
+pub use words::{Operand, key_of, kind_of, operand_of, state_of, value_of};

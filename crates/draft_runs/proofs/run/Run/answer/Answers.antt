@@ -4,7 +4,7 @@ use Rattle.run_heap.specs.Sound.{Owned}
 use Rattle.draft_core.specs.Kept.{ok_more}
 use Rattle.draft_core.specs.Seen.{heap}
 use Rattle.draft_runs.specs.Held.{owned_at}
-use Rattle.draft_runs.proofs.run.Run.value.Goals as goal
+use Rattle.draft_runs.proofs.run.Run.answer.Goals as goal
 
 pub returns-then-i-len : goal.returns-then-i-len
 returns-then-i-len c =

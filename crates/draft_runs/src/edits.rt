@@ -1,0 +1,97 @@
+//! Calls that write one object, and have conditions where others have refusals: a call that may not be made is answered by
+//! `not called`.
+ghost use Rattle.run_heap.specs.Sound.{AllOwned};
+ghost use Rattle.draft_core.specs.Seen.{heap, Stands};
+
+use crate::run::Run;
+use crate::words::Operand;
+use std::alloc::{AllocError, Global};
+use value_model::Key;
+
+impl Run {
+    /// `splice_at`.
+    pub fn splice_at(
+        &mut self,
+        alloc: Global,
+        of: &Operand,
+        from: usize,
+        to: usize,
+        items: &[Operand],
+    ) -> Result<&'static str, AllocError>
+        requires stands { Stands self.old.store self.old.scope }
+        requires owned { AllOwned (heap self.old.store self.old.scope) self.old.values.items }
+        ensures stands { Stands self.new.store self.new.scope }
+        ensures owned { AllOwned (heap self.new.store self.new.scope) self.new.values.items }
+    {
+        let of = self.value(alloc, of)?;
+        let Some(items) = self.stored(alloc, items)? else {
+            return Ok("not called");
+        };
+        if !self.may_splice(&of, from, to) {
+            return Ok("not called");
+        }
+        self.scope
+            .splice_at(alloc, &self.store, &of, from, to, &items)?;
+        Ok("done")
+    }
+
+    /// `set_key` with a value.
+    pub fn set_key(
+        &mut self,
+        alloc: Global,
+        of: &Operand,
+        key: &Key,
+        value: &Operand,
+    ) -> Result<&'static str, AllocError>
+        requires stands { Stands self.old.store self.old.scope }
+        requires owned { AllOwned (heap self.old.store self.old.scope) self.old.values.items }
+        ensures stands { Stands self.new.store self.new.scope }
+        ensures owned { AllOwned (heap self.new.store self.new.scope) self.new.values.items }
+    {
+        let of = self.value(alloc, of)?;
+        let value = self.value(alloc, value)?;
+        if !self.may_set(&of, key, &value) {
+            return Ok("not called");
+        }
+        self.scope
+            .set_key(alloc, &self.store, &of, key, Some(value))?;
+        Ok("done")
+    }
+
+    /// `set_key` without a value.
+    pub fn unset_key(
+        &mut self,
+        alloc: Global,
+        of: &Operand,
+        key: &Key,
+    ) -> Result<&'static str, AllocError>
+        requires stands { Stands self.old.store self.old.scope }
+        requires owned { AllOwned (heap self.old.store self.old.scope) self.old.values.items }
+        ensures stands { Stands self.new.store self.new.scope }
+        ensures owned { AllOwned (heap self.new.store self.new.scope) self.new.values.items }
+    {
+        let of = self.value(alloc, of)?;
+        if !self.is_keyed_object(&of) {
+            return Ok("not called");
+        }
+        self.scope.set_key(alloc, &self.store, &of, key, None)?;
+        Ok("done")
+    }
+
+    /// `empty`.
+    pub fn empty(&mut self, alloc: Global, of: &Operand) -> Result<&'static str, AllocError>
+        requires stands { Stands self.old.store self.old.scope }
+        requires owned { AllOwned (heap self.old.store self.old.scope) self.old.values.items }
+        ensures stands { Stands self.new.store self.new.scope }
+        ensures owned { AllOwned (heap self.new.store self.new.scope) self.new.values.items }
+    {
+        let of = self.value(alloc, of)?;
+        match self.object(&of) {
+            Some(_) => {
+                self.scope.empty(alloc, &self.store, &of)?;
+                Ok("done")
+            }
+            None => Ok("not called"),
+        }
+    }
+}

@@ -1,0 +1,116 @@
+//! Calls that make objects.
+ghost use Rattle.std.specs.Prelude.{◌≡◌, None};
+ghost use Rattle.value_model.specs.Limits.{value_limit};
+ghost use Rattle.run_heap.specs.Sound.{AllOwned};
+ghost use Rattle.draft_core.specs.Seen.{heap, Stands};
+
+use crate::run::Run;
+use crate::texts::not_called;
+use crate::words::Operand;
+use std::alloc::{AllocError, Global};
+use value_model::Kind;
+use values::Val;
+
+impl Run {
+    /// `new_object`.
+    pub fn new_object(&mut self, alloc: Global) -> Result<String, AllocError>
+        requires stands { Stands self.old.store self.old.scope }
+        requires owned { AllOwned (heap self.old.store self.old.scope) self.old.values.items }
+        ensures stands { Stands self.new.store self.new.scope }
+        ensures owned { AllOwned (heap self.new.store self.new.scope) self.new.values.items }
+    {
+        let answer = self.scope.new_object(alloc)?;
+        self.keep(alloc, Ok(answer))
+    }
+
+    /// `new_list`.
+    pub fn new_list(&mut self, alloc: Global) -> Result<String, AllocError>
+        requires stands { Stands self.old.store self.old.scope }
+        requires owned { AllOwned (heap self.old.store self.old.scope) self.old.values.items }
+        ensures stands { Stands self.new.store self.new.scope }
+        ensures owned { AllOwned (heap self.new.store self.new.scope) self.new.values.items }
+    {
+        let answer = self.scope.new_list(alloc)?;
+        self.keep(alloc, Ok(answer))
+    }
+
+    /// `keys`.
+    pub fn keys(&mut self, alloc: Global, of: &Operand) -> Result<String, AllocError>
+        requires stands { Stands self.old.store self.old.scope }
+        requires owned { AllOwned (heap self.old.store self.old.scope) self.old.values.items }
+        ensures stands { Stands self.new.store self.new.scope }
+        ensures owned { AllOwned (heap self.new.store self.new.scope) self.new.values.items }
+    {
+        let of = self.value(alloc, of)?;
+        let answer = self.scope.keys(alloc, &self.store, &of);
+        self.keep(alloc, answer)
+    }
+
+    /// `plain_of`.
+    pub fn plain(&mut self, alloc: Global, v: &Val) -> Result<String, AllocError>
+        requires limit { value_limit v.now ≡ None }
+        requires stands { Stands self.old.store self.old.scope }
+        requires owned { AllOwned (heap self.old.store self.old.scope) self.old.values.items }
+        ensures stands { Stands self.new.store self.new.scope }
+        ensures owned { AllOwned (heap self.new.store self.new.scope) self.new.values.items }
+    {
+        let answer = self.scope.plain_of(alloc, v)?;
+        self.keep(alloc, Ok(answer))
+    }
+
+    /// `new_of`.
+    pub fn new_of(&mut self, alloc: Global, kind: Kind) -> Result<String, AllocError>
+        requires stands { Stands self.old.store self.old.scope }
+        requires owned { AllOwned (heap self.old.store self.old.scope) self.old.values.items }
+        ensures stands { Stands self.new.store self.new.scope }
+        ensures owned { AllOwned (heap self.new.store self.new.scope) self.new.values.items }
+    {
+        let answer = self.scope.new_of(alloc, kind)?;
+        self.keep(alloc, Ok(answer))
+    }
+
+    /// `list_of`, or `not called` where a list may not hold one of the values.
+    pub fn list_of(&mut self, alloc: Global, items: &[Operand]) -> Result<String, AllocError>
+        requires stands { Stands self.old.store self.old.scope }
+        requires owned { AllOwned (heap self.old.store self.old.scope) self.old.values.items }
+        ensures stands { Stands self.new.store self.new.scope }
+        ensures owned { AllOwned (heap self.new.store self.new.scope) self.new.values.items }
+    {
+        let Some(items) = self.stored(alloc, items)? else {
+            return not_called(alloc);
+        };
+        let answer = self.scope.list_of(alloc, &self.store, &items)?;
+        self.keep(alloc, Ok(answer))
+    }
+
+    /// `splice_with`, or `not called` where a condition of it doesn't hold.
+    pub fn splice_with(
+        &mut self,
+        alloc: Global,
+        of: &Operand,
+        from: usize,
+        to: usize,
+        items: &[Operand],
+        others: &[Operand],
+    ) -> Result<String, AllocError>
+        requires stands { Stands self.old.store self.old.scope }
+        requires owned { AllOwned (heap self.old.store self.old.scope) self.old.values.items }
+        ensures stands { Stands self.new.store self.new.scope }
+        ensures owned { AllOwned (heap self.new.store self.new.scope) self.new.values.items }
+    {
+        let of = self.value(alloc, of)?;
+        let Some(items) = self.stored(alloc, items)? else {
+            return not_called(alloc);
+        };
+        let Some(others) = self.stored(alloc, others)? else {
+            return not_called(alloc);
+        };
+        if !self.may_splice(&of, from, to) {
+            return not_called(alloc);
+        }
+        let answer = self
+            .scope
+            .splice_with(alloc, &self.store, &of, from, to, &items, &others)?;
+        self.keep(alloc, Ok(answer))
+    }
+}

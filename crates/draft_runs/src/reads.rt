@@ -1,0 +1,77 @@
+//! Calls that read.
+ghost use Rattle.run_heap.specs.Sound.{AllOwned};
+ghost use Rattle.draft_core.specs.Seen.{heap, Stands};
+
+use crate::run::Run;
+use crate::texts::name_of;
+use crate::words::Operand;
+use std::alloc::{AllocError, Global};
+use value_model::Key;
+
+impl Run {
+    /// `get`.
+    pub fn get(&mut self, alloc: Global, of: &Operand, key: &Key) -> Result<String, AllocError>
+        requires stands { Stands self.old.store self.old.scope }
+        requires owned { AllOwned (heap self.old.store self.old.scope) self.old.values.items }
+        ensures stands { Stands self.new.store self.new.scope }
+        ensures owned { AllOwned (heap self.new.store self.new.scope) self.new.values.items }
+    {
+        let of = self.value(alloc, of)?;
+        let answer = self.scope.get(alloc, &self.store, &of, key);
+        self.keep(alloc, answer)
+    }
+
+    /// `original`.
+    pub fn original(&mut self, alloc: Global, of: &Operand) -> Result<String, AllocError>
+        requires stands { Stands self.old.store self.old.scope }
+        requires owned { AllOwned (heap self.old.store self.old.scope) self.old.values.items }
+        ensures stands { Stands self.new.store self.new.scope }
+        ensures owned { AllOwned (heap self.new.store self.new.scope) self.new.values.items }
+    {
+        let of = self.value(alloc, of)?;
+        let answer = self.scope.original(&self.store, &of);
+        self.keep(alloc, answer)
+    }
+
+    /// `len`.
+    pub fn len(&self, alloc: Global, of: &Operand) -> Result<String, AllocError>
+        requires stands { Stands self.now.store self.now.scope }
+        requires owned { AllOwned (heap self.now.store self.now.scope) self.now.values.items }
+    {
+        let of = self.value(alloc, of)?;
+        match self.scope.len(&self.store, &of) {
+            Ok(n) => format!(in alloc; "{n}"),
+            Err(fault) => String::from_str(alloc, name_of(fault)),
+        }
+    }
+
+    /// `same`.
+    pub fn same(&self, alloc: Global, a: &Operand, b: &Operand) -> Result<bool, AllocError>
+        requires { AllOwned (heap self.now.store self.now.scope) self.now.values.items }
+    {
+        let a = self.value(alloc, a)?;
+        let b = self.value(alloc, b)?;
+        Ok(self.scope.same(&a, &b))
+    }
+
+    /// `owns`.
+    pub fn owns(&self, alloc: Global, v: &Operand) -> Result<bool, AllocError>
+        requires { AllOwned (heap self.now.store self.now.scope) self.now.values.items }
+    {
+        let v = self.value(alloc, v)?;
+        Ok(self.scope.owns(&v))
+    }
+
+    /// `is_draft`.
+    pub fn is_draft(&self, alloc: Global, v: &Operand) -> Result<bool, AllocError>
+        requires { AllOwned (heap self.now.store self.now.scope) self.now.values.items }
+    {
+        let v = self.value(alloc, v)?;
+        Ok(self.scope.is_draft(&v))
+    }
+
+    /// `any_written`.
+    pub fn any_written(&self) -> bool {
+        self.scope.any_written()
+    }
+}

@@ -1,0 +1,51 @@
+//! Calls that write one object.
+ghost use Rattle.run_heap.specs.Sound.{AllOwned};
+ghost use Rattle.draft_core.specs.Seen.{heap, Stands};
+
+use crate::run::Run;
+use crate::texts::name_of;
+use crate::words::Operand;
+use std::alloc::{AllocError, Global};
+use value_model::Key;
+
+impl Run {
+    /// `put`.
+    pub fn put(
+        &mut self,
+        alloc: Global,
+        of: &Operand,
+        key: &Key,
+        value: &Operand,
+    ) -> Result<&'static str, AllocError>
+        requires stands { Stands self.old.store self.old.scope }
+        requires owned { AllOwned (heap self.old.store self.old.scope) self.old.values.items }
+        ensures stands { Stands self.new.store self.new.scope }
+        ensures owned { AllOwned (heap self.new.store self.new.scope) self.new.values.items }
+    {
+        let of = self.value(alloc, of)?;
+        let value = self.value(alloc, value)?;
+        match self.scope.put(alloc, &self.store, &of, key, value) {
+            Ok(()) => Ok("done"),
+            Err(fault) => Ok(name_of(fault)),
+        }
+    }
+
+    /// `remove`.
+    pub fn remove(
+        &mut self,
+        alloc: Global,
+        of: &Operand,
+        key: &Key,
+    ) -> Result<&'static str, AllocError>
+        requires stands { Stands self.old.store self.old.scope }
+        requires owned { AllOwned (heap self.old.store self.old.scope) self.old.values.items }
+        ensures stands { Stands self.new.store self.new.scope }
+        ensures owned { AllOwned (heap self.new.store self.new.scope) self.new.values.items }
+    {
+        let of = self.value(alloc, of)?;
+        match self.scope.remove(alloc, &self.store, &of, key) {
+            Ok(()) => Ok("done"),
+            Err(fault) => Ok(name_of(fault)),
+        }
+    }
+}
