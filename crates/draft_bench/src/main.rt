@@ -98,15 +98,16 @@ fn read(alloc: Global, store: &Store, scope: &mut Scope, key: &Key, i: u32) -> a
     Ok(())
 }
 
-/// Writes every so many drafts, and reads them; answers the microseconds of both.
-fn touch(
+/// Writes every so many drafts; answers the microseconds.
+fn write_all(
     rt: &HostRuntime,
     store: &Store,
     scope: &mut Scope,
     n: u32,
     every: u32,
-) -> anyhow::Result<(u64, u64)>
+) -> anyhow::Result<u64>
     requires { Stands store.now scope.old }
+    ensures { Stands store.now scope.new }
 {
     let alloc = rt.alloc();
     let key = Key::Text(name(alloc)?);
@@ -114,12 +115,26 @@ fn touch(
     for i in 0..n {
         write(alloc, store, scope, &key, i.saturating_mul(every))?;
     }
-    let writes = micros(start.elapsed(rt)?);
+    Ok(micros(start.elapsed(rt)?))
+}
+
+/// Reads every so many drafts; answers the microseconds.
+fn read_all(
+    rt: &HostRuntime,
+    store: &Store,
+    scope: &mut Scope,
+    n: u32,
+    every: u32,
+) -> anyhow::Result<u64>
+    requires { Stands store.now scope.old }
+{
+    let alloc = rt.alloc();
+    let key = Key::Text(name(alloc)?);
     let start = Instant::now(rt)?;
     for i in 0..n {
         read(alloc, store, scope, &key, i.saturating_mul(every))?;
     }
-    Ok((writes, micros(start.elapsed(rt)?)))
+    Ok(micros(start.elapsed(rt)?))
 }
 
 /// Touches so many drafts of a list of so many objects, and says how fast.
@@ -131,7 +146,8 @@ fn report(rt: &HostRuntime, name: &str, all: u32, n: u32, every: u32) -> anyhow:
     let root = store.load(alloc, &v).ok().context("no room")?;
     let mut mint = ScopeMint::new();
     let mut scope = Scope::begin(alloc, mint.take(), &store, root)?;
-    let (writes, reads) = touch(rt, &store, &mut scope, n, every)?;
+    let writes = write_all(rt, &store, &mut scope, n, every)?;
+    let reads = read_all(rt, &store, &mut scope, n, every)?;
     let many = n as u64 * 1_000_000;
     println!(*rt;
         "{name}: {} reads/s, {} writes/s, written: {}",
@@ -151,7 +167,8 @@ fn small(rt: &HostRuntime) -> anyhow::Result<()> {
     let root = store.load(alloc, &v).ok().context("no room")?;
     let mut mint = ScopeMint::new();
     let mut scope = Scope::begin(alloc, mint.take(), &store, root)?;
-    touch(rt, &store, &mut scope, 10, 10)?;
+    write_all(rt, &store, &mut scope, 10, 10)?;
+    read_all(rt, &store, &mut scope, 10, 10)?;
     println!(*rt; "written: {}", scope.any_written())?;
     Ok(())
 }

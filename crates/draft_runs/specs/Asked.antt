@@ -4,7 +4,6 @@ use Rattle.std.specs.Prelude.{◌≢◌, ◌==◌, not, Option, Some, None, IfSo
 use Rattle.value_model.specs.declared.key.Key.{Key}
 use Rattle.value_model.specs.declared.words.Kind.{Kind}
 use Rattle.value_model.specs.declared.words.Kind.TheVariants as kind
-use Rattle.run_heap.specs.declared.value.ObjRef.{ObjRef}
 use Rattle.run_heap.specs.declared.value.Rv.{Rv}
 use Rattle.run_heap.specs.declared.value.Rv.TheVariants.{Undefined, Prim, Obj, Frozen}
 use Rattle.run_heap.specs.Heap.{Heap}

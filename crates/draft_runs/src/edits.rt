@@ -9,7 +9,7 @@ use std::alloc::{AllocError, Global};
 use value_model::Key;
 
 impl Run {
-    /// `splice_at`.
+    /// Calls `splice_at` on a list: `done`.
     pub fn splice_at(
         &mut self,
         alloc: Global,
@@ -35,7 +35,7 @@ impl Run {
         Ok("done")
     }
 
-    /// `set_key` with a value.
+    /// Calls `set_key` with a value: `done`.
     pub fn set_key(
         &mut self,
         alloc: Global,
@@ -58,7 +58,7 @@ impl Run {
         Ok("done")
     }
 
-    /// `set_key` without a value.
+    /// Calls `set_key` without a value: `done`.
     pub fn unset_key(
         &mut self,
         alloc: Global,
@@ -78,7 +78,7 @@ impl Run {
         Ok("done")
     }
 
-    /// `empty`.
+    /// Calls `empty` on an object: `done`.
     pub fn empty(&mut self, alloc: Global, of: &Operand) -> Result<&'static str, AllocError>
         requires stands { Stands self.old.store self.old.scope }
         requires owned { AllOwned (heap self.old.store self.old.scope) self.old.values.items }

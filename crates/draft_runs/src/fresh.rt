@@ -12,7 +12,7 @@ use value_model::Kind;
 use values::Val;
 
 impl Run {
-    /// `new_object`.
+    /// Calls `new_object`: the object, which is kept.
     pub fn new_object(&mut self, alloc: Global) -> Result<String, AllocError>
         requires stands { Stands self.old.store self.old.scope }
         requires owned { AllOwned (heap self.old.store self.old.scope) self.old.values.items }
@@ -23,7 +23,7 @@ impl Run {
         self.keep(alloc, Ok(answer))
     }
 
-    /// `new_list`.
+    /// Calls `new_list`: the list, which is kept.
     pub fn new_list(&mut self, alloc: Global) -> Result<String, AllocError>
         requires stands { Stands self.old.store self.old.scope }
         requires owned { AllOwned (heap self.old.store self.old.scope) self.old.values.items }
@@ -34,7 +34,7 @@ impl Run {
         self.keep(alloc, Ok(answer))
     }
 
-    /// `keys`.
+    /// Calls `keys`: the list, which is kept, or the refusal.
     pub fn keys(&mut self, alloc: Global, of: &Operand) -> Result<String, AllocError>
         requires stands { Stands self.old.store self.old.scope }
         requires owned { AllOwned (heap self.old.store self.old.scope) self.old.values.items }
@@ -46,7 +46,7 @@ impl Run {
         self.keep(alloc, answer)
     }
 
-    /// `plain_of`.
+    /// Calls `plain_of`: the value, which is kept.
     pub fn plain(&mut self, alloc: Global, v: &Val) -> Result<String, AllocError>
         requires limit { value_limit v.now ≡ None }
         requires stands { Stands self.old.store self.old.scope }
@@ -58,7 +58,7 @@ impl Run {
         self.keep(alloc, Ok(answer))
     }
 
-    /// `new_of`.
+    /// Calls `new_of`: the object, which is kept.
     pub fn new_of(&mut self, alloc: Global, kind: Kind) -> Result<String, AllocError>
         requires stands { Stands self.old.store self.old.scope }
         requires owned { AllOwned (heap self.old.store self.old.scope) self.old.values.items }
@@ -69,7 +69,7 @@ impl Run {
         self.keep(alloc, Ok(answer))
     }
 
-    /// `list_of`, or `not called` where a list may not hold one of the values.
+    /// Calls `list_of`: the list, which is kept, or `not called` where a list may not hold one of the values.
     pub fn list_of(&mut self, alloc: Global, items: &[Operand]) -> Result<String, AllocError>
         requires stands { Stands self.old.store self.old.scope }
         requires owned { AllOwned (heap self.old.store self.old.scope) self.old.values.items }
@@ -83,7 +83,8 @@ impl Run {
         self.keep(alloc, Ok(answer))
     }
 
-    /// `splice_with`, or `not called` where a condition of it doesn't hold.
+    /// Calls `splice_with`: the fresh list, which is kept, or `not called` where the operand is no list with these items, or a
+    /// list may not hold one of the values.
     pub fn splice_with(
         &mut self,
         alloc: Global,

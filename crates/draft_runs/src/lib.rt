@@ -1,4 +1,8 @@
 //! Calls on one run's objects by numbers of earlier answers, for examples and for long sequences of calls.
+//!
+//! A `Run` has a method for each call of draft_core's `Scope`, which answers the text that the call's answer is: a value as
+//! `text_of`, a refusal as `name_of`, and `not called` where a condition of the call doesn't hold. `AllocError` is want of memory
+//! outside the call; inside one with refusals it is `Memory`.
 #![tactic(auto)]
 
 mod edits;

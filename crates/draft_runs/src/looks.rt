@@ -14,7 +14,7 @@ use std::alloc::{AllocError, Global};
 use value_model::{Key, Kind};
 
 impl Run {
-    /// `kind_of`: the kind's name, or `none`. It is called with what `owns` accepts.
+    /// Calls `kind_of` on what is no reference of another scope: the name of the kind, or `none`.
     pub fn kind(&self, alloc: Global, v: &Operand) -> Result<&'static str, AllocError>
         requires stands { Stands self.now.store self.now.scope }
         requires owned { AllOwned (heap self.now.store self.now.scope) self.now.values.items }
@@ -29,7 +29,7 @@ impl Run {
         }
     }
 
-    /// `count`.
+    /// Calls `count` on a container.
     pub fn count(&self, alloc: Global, of: &Operand) -> Result<String, AllocError>
         requires stands { Stands self.now.store self.now.scope }
         requires owned { AllOwned (heap self.now.store self.now.scope) self.now.values.items }
@@ -44,7 +44,7 @@ impl Run {
         }
     }
 
-    /// `find`: the index, or `none`.
+    /// Calls `find` on an object, a Map or a Set: the index, or `none`.
     pub fn find(&self, alloc: Global, of: &Operand, key: &Key) -> Result<String, AllocError>
         requires stands { Stands self.now.store self.now.scope }
         requires owned { AllOwned (heap self.now.store self.now.scope) self.now.values.items }
@@ -59,7 +59,7 @@ impl Run {
         }
     }
 
-    /// `key_at`.
+    /// Calls `key_at` on an object, a Map or a Set that has the entry.
     pub fn key_at(&self, alloc: Global, of: &Operand, i: usize) -> Result<String, AllocError>
         requires stands { Stands self.now.store self.now.scope }
         requires owned { AllOwned (heap self.now.store self.now.scope) self.now.values.items }
@@ -74,7 +74,7 @@ impl Run {
         json_of(alloc, self.scope.key_at(&self.store, &of, i))
     }
 
-    /// `entry_at`.
+    /// Calls `entry_at` on a container that has the entry: the value, which is kept.
     pub fn entry_at(&mut self, alloc: Global, of: &Operand, i: usize) -> Result<String, AllocError>
         requires stands { Stands self.old.store self.old.scope }
         requires owned { AllOwned (heap self.old.store self.old.scope) self.old.values.items }
@@ -89,7 +89,7 @@ impl Run {
         self.keep(alloc, Ok(answer))
     }
 
-    /// `peek`: a container that has no table of its own as its node.
+    /// Calls `peek` on a container that has the entry: the value as it is kept.
     pub fn peek(&self, alloc: Global, of: &Operand, i: usize) -> Result<String, AllocError>
         requires stands { Stands self.now.store self.now.scope }
         requires owned { AllOwned (heap self.now.store self.now.scope) self.now.values.items }
@@ -101,7 +101,7 @@ impl Run {
         peek_text(alloc, &self.scope.peek(&self.store, &of, i))
     }
 
-    /// `same_at`.
+    /// Calls `same_at` on a container that has the entry.
     pub fn same_at(
         &self,
         alloc: Global,
@@ -120,7 +120,7 @@ impl Run {
         Ok(yes_or_no(self.scope.same_at(&self.store, &of, i, &item)))
     }
 
-    /// `written`.
+    /// Calls `written` on a container.
     pub fn written(&self, alloc: Global, of: &Operand) -> Result<&'static str, AllocError>
         requires stands { Stands self.now.store self.now.scope }
         requires owned { AllOwned (heap self.now.store self.now.scope) self.now.values.items }
@@ -132,7 +132,7 @@ impl Run {
         }
     }
 
-    /// `source`: the node's number behind `#`, or `none`.
+    /// Calls `source` on a container: the number of the node behind `#`, or `none`.
     pub fn source(&self, alloc: Global, of: &Operand) -> Result<String, AllocError>
         requires stands { Stands self.now.store self.now.scope }
         requires owned { AllOwned (heap self.now.store self.now.scope) self.now.values.items }
@@ -144,7 +144,7 @@ impl Run {
         }
     }
 
-    /// `place_of`: the path as JSON, or `none`.
+    /// Calls `place_of`: the path as JSON, or `none`.
     pub fn place_of(&self, alloc: Global, of: &Operand) -> Result<String, AllocError>
         requires stands { Stands self.now.store self.now.scope }
         requires owned { AllOwned (heap self.now.store self.now.scope) self.now.values.items }
@@ -156,7 +156,7 @@ impl Run {
         }
     }
 
-    /// `slot` of an object's reference.
+    /// Calls `slot` on a reference.
     pub fn slot(&self, alloc: Global, of: &Operand) -> Result<String, AllocError>
         requires { AllOwned (heap self.now.store self.now.scope) self.now.values.items }
     {

@@ -9,7 +9,7 @@ use std::alloc::{AllocError, Global};
 use value_model::Key;
 
 impl Run {
-    /// `get`.
+    /// Calls `get`: the value, which is kept, or the refusal.
     pub fn get(&mut self, alloc: Global, of: &Operand, key: &Key) -> Result<String, AllocError>
         requires stands { Stands self.old.store self.old.scope }
         requires owned { AllOwned (heap self.old.store self.old.scope) self.old.values.items }
@@ -21,7 +21,7 @@ impl Run {
         self.keep(alloc, answer)
     }
 
-    /// `original`.
+    /// Calls `original`: the frozen container, which is kept, or the refusal.
     pub fn original(&mut self, alloc: Global, of: &Operand) -> Result<String, AllocError>
         requires stands { Stands self.old.store self.old.scope }
         requires owned { AllOwned (heap self.old.store self.old.scope) self.old.values.items }
@@ -33,7 +33,7 @@ impl Run {
         self.keep(alloc, answer)
     }
 
-    /// `len`.
+    /// Calls `len`: the length, or the refusal.
     pub fn len(&self, alloc: Global, of: &Operand) -> Result<String, AllocError>
         requires stands { Stands self.now.store self.now.scope }
         requires owned { AllOwned (heap self.now.store self.now.scope) self.now.values.items }
@@ -45,7 +45,7 @@ impl Run {
         }
     }
 
-    /// `same`.
+    /// Calls `same`.
     pub fn same(&self, alloc: Global, a: &Operand, b: &Operand) -> Result<bool, AllocError>
         requires { AllOwned (heap self.now.store self.now.scope) self.now.values.items }
     {
@@ -54,7 +54,7 @@ impl Run {
         Ok(self.scope.same(&a, &b))
     }
 
-    /// `owns`.
+    /// Calls `owns`.
     pub fn owns(&self, alloc: Global, v: &Operand) -> Result<bool, AllocError>
         requires { AllOwned (heap self.now.store self.now.scope) self.now.values.items }
     {
@@ -62,7 +62,7 @@ impl Run {
         Ok(self.scope.owns(&v))
     }
 
-    /// `is_draft`.
+    /// Calls `is_draft`.
     pub fn is_draft(&self, alloc: Global, v: &Operand) -> Result<bool, AllocError>
         requires { AllOwned (heap self.now.store self.now.scope) self.now.values.items }
     {
@@ -70,7 +70,7 @@ impl Run {
         Ok(self.scope.is_draft(&v))
     }
 
-    /// `any_written`.
+    /// Calls `any_written`.
     pub fn any_written(&self) -> bool {
         self.scope.any_written()
     }

@@ -9,7 +9,7 @@ use std::alloc::{AllocError, Global};
 use value_model::Key;
 
 impl Run {
-    /// `put`.
+    /// Calls `put`: `done`, or the refusal.
     pub fn put(
         &mut self,
         alloc: Global,
@@ -30,7 +30,7 @@ impl Run {
         }
     }
 
-    /// `remove`.
+    /// Calls `remove`: `done`, or the refusal.
     pub fn remove(
         &mut self,
         alloc: Global,
