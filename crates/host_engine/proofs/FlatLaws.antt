@@ -16,12 +16,13 @@ use Rattle.value_model.specs.Search.{left_true, right_true}
 use Rattle.numbered.specs.Tree.{Tree, prim, node, branch, own_weight, child_weight, child_weights}
 use Rattle.numbered.specs.Loading.{places, places_in, numbered, numbered_in}
 use Rattle.numbered.specs.Store.{tree_at}
-use Rattle.node_store.specs.Nodes.{is_node, ascending, cells_fit, CellsBelow, branches, built}
+use Rattle.node_store.specs.Nodes.{is_node, ascending, cell_fits, cells_fit, CellsBelow, branches, built}
+use Rattle.node_store.specs.declared.node.Cell.{Cell}
 use Rattle.host_machine.specs.Flat.{is_integer, is_text_key, is_field_key, is_flat_table}
 use Rattle.host_machine.proofs.NumberLaws.{flat_places}
 use Rattle.host_engine.specs.Kept.{of_field, state_of}
 use Rattle.host_engine.specs.Frozen.{frozen, key_of, cell_of}
-use Rattle.host_engine.specs.declared.table.Field.{Field}
+use Rattle.host_engine.specs.declared.fields.Field.{Field}
 
 abbrev pub Flat : TableOf → Type 0
 Flat es = IsTrue (is_flat_table es)
@@ -38,7 +39,7 @@ flat_tail e es h = right_true (is_field_key e.0 && is_integer e.1) (is_flat_tabl
 -- ---- what the node stands for
 fields_numbered : (ts : List Tree) (next : ℕ) (fs : List Field) → branches ts (zip (map key_of fs) (map cell_of fs)) ≡ numbered_in next (entries (map of_field fs))
 fields_numbered ts next [] = refl
-fields_numbered ts next (f ∷ fs) = ap (branch (key.Text f.name) (prim (key.Int f.number))) (fields_numbered ts (next + 0) fs)
+fields_numbered ts next (f ∷ fs) = ap (branch f.key.now (prim (key.Int f.number))) (fields_numbered ts (next + 0) fs)
 
 pub built_frozen : (ts : List Tree) (fs : List Field) → Flat (map of_field fs) → built ts kind.Obj (map key_of fs) (map cell_of fs) ≡ frozen ts (map of_field fs)
 built_frozen ts fs h =
@@ -51,18 +52,24 @@ cells_below ts (f ∷ fs) = (tt, cells_below ts fs)
 
 below_keys : (k : Key) (fs : List Field) → below_all key_cmp k (map (λ (j : Key). let e : Key × Key = (j, j) in e) (map key_of fs)) ≡ below_all key_cmp k (map of_field fs)
 below_keys k [] = refl
-below_keys k (f ∷ fs) = ap (λ (b : Bool). is_lt (key_cmp k (key.Text f.name)) && b) (below_keys k fs)
+below_keys k (f ∷ fs) = ap (λ (b : Bool). is_lt (key_cmp k f.key.now) && b) (below_keys k fs)
 
 sorted_keys : (fs : List Field) → ascending (map key_of fs) ≡ is_sorted key_cmp (map of_field fs)
 sorted_keys [] = refl
-sorted_keys (f ∷ fs) = let a = below_keys (key.Text f.name) fs in let b = sorted_keys fs in λ i. a i && b i
+sorted_keys (f ∷ fs) = let a = below_keys f.key.now fs in let b = sorted_keys fs in λ i. a i && b i
 
-fields_fit : (fs : List Field) → cells_fit kind.Obj (map key_of fs) (map cell_of fs) ≡ true
-fields_fit [] = refl
-fields_fit (f ∷ fs) = fields_fit fs
+text_fits : (k : Key) (c : Cell) → IsTrue (is_field_key k) → cell_fits kind.Obj k c ≡ true
+text_fits (key.Text s) c h = refl
+text_fits key.Null c h = absurd (cc)
+text_fits (key.Bool b) c h = absurd (cc)
+text_fits (key.Int n) c h = absurd (cc)
 
-pub fields_node : (fs : List Field) → IsTrue (is_sorted key_cmp (map of_field fs)) → IsTrue (is_node kind.Obj (map key_of fs) (map cell_of fs))
-fields_node fs h = rw (sorted_keys fs, h) (fields_fit fs)
+fields_fit : (fs : List Field) → Flat (map of_field fs) → cells_fit kind.Obj (map key_of fs) (map cell_of fs) ≡ true
+fields_fit [] h = refl
+fields_fit (f ∷ fs) h = rw (text_fits f.key.now (cell_of f) (key_head (of_field f) (map of_field fs) h)) (fields_fit fs (flat_tail (of_field f) (map of_field fs) h))
+
+pub fields_node : (fs : List Field) → IsTrue (is_sorted key_cmp (map of_field fs)) → Flat (map of_field fs) → IsTrue (is_node kind.Obj (map key_of fs) (map cell_of fs))
+fields_node fs h f = rw (sorted_keys fs, h) (fields_fit fs f)
 
 -- ---- it is accepted
 no_depth : (v : Plain) → IsTrue (is_integer v) → depth v ≡ 0

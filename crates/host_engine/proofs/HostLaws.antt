@@ -1,6 +1,6 @@
 -- The machine of a host that keeps a flat state in a store.
-use Rattle.std.proofs.Common.{◌≡◌, ℕ, ◌+◌, ◌≤◌, ◌<◌, ◌^◌, List, [], ◌∷◌, ◌++◌, length, min, ap, refl, sym, ◌∙◌, arith, Bool, true, false, length-append, ne_eqb}
-use Rattle.std.specs.Prelude.{IsTrue, ◌||◌, ◌==◌, nat_lt, Option, Some, None, option_map}
+use Rattle.std.proofs.Common.{◌≡◌, ℕ, ◌+◌, ◌≤◌, ◌<◌, ◌^◌, List, [], ◌∷◌, ◌++◌, length, min, ap, refl, sym, ◌∙◌, subst, arith, Bool, true, false, length-append, ne_eqb}
+use Rattle.std.specs.Prelude.{IsTrue, ◌||◌, ◌==◌, nat_lt, Option, Some, None, option_map, Ok, Err}
 use Rattle.value_model.specs.declared.words.Kind.TheVariants as kind
 use Rattle.value_model.specs.Limits.{state_limit}
 use Rattle.value_model.specs.Plain as plain_value
@@ -15,27 +15,48 @@ use Rattle.plain_values.specs.declared.refusal.Refusal.TheVariants as refusal
 use Rattle.plain_values.specs.declared.reply.Reply.{Reply}
 use Rattle.plain_values.specs.declared.reply.Reply.TheVariants as reply
 use Rattle.values.specs.declared.patch.Pair.{Pair}
-use Rattle.host_machine.specs.Flat.{is_integer, is_flat, is_flat_table}
-use Rattle.host_machine.specs.Machine.{Machine, value, opened, between, with_state, changed, refused, no_path, node_shown, number_if}
+use Rattle.values.specs.declared.patch.Patch.{Patch}
+use Rattle.patch_meaning.specs.Applying.{applied_from}
+use Rattle.host_machine.specs.Flat.{is_integer, is_flat, is_flat_table, are_flat}
+use Rattle.host_machine.specs.Machine.{Machine, value, table_of, opened, between, with_state, changed, refused, judged, writes, apply_step, no_path, node_shown, number_if}
 use Rattle.host_machine.specs.Machine.{is_full as is_full_of, is_heavy as is_heavy_of}
 use Rattle.host_machine.proofs.NumberLaws.{flat_places, flat_number, flat_used}
-use Rattle.host_engine.specs.Frozen.{frozen, between_tables, IsKeptChange}
-use Rattle.host_engine.specs.Kept.{IsKept, machine_of, state_of}
+use Rattle.host_machine.proofs.StepLaws.{step_judged, step_refused}
+use Rattle.run_heap.specs.declared.content.Content.{Content}
+use Rattle.run_heap.specs.declared.value.Rv.{Rv}
+use Rattle.run_heap.specs.Heap.{shown}
+use Rattle.run_heap.specs.Operations.{is_marked, marked, root_draft}
+use Rattle.run_heap.specs.Sound.{IsContainer}
+use Rattle.draft_core.specs.declared.scope.Scope.{Scope}
+use Rattle.draft_core.specs.Seen.{heap, Stands}
+use Rattle.host_engine.specs.Applied.{IsAppliedChange, IsUnchanged, IsRefused, Applies, edit_stop, change_stop}
+use Rattle.host_engine.specs.Drafts.{IsFlatObject, entries_in, state_in, root_in}
+use Rattle.host_engine.specs.Edits.{EditsAll}
+use Rattle.host_engine.specs.Frozen.{frozen, between_tables, IsKeptChange, IsBigChange, IsFullChange, IsHeavyChange, Changes}
+use Rattle.host_engine.specs.Kept.{IsFlatState, IsKept, machine_of, state_of, table_at}
 use Rattle.host_engine.specs.declared.change.Change.{Change}
+use Rattle.host_engine.specs.declared.change.ChangeStop.{ChangeStop}
+use Rattle.host_engine.specs.declared.change.ChangeStop.TheVariants as change
+use Rattle.host_engine.specs.declared.edits.EditStop.{EditStop}
+use Rattle.host_engine.specs.declared.edits.EditStop.TheVariants as edit
+use Rattle.host_engine.proofs.DraftLaws.{root_object}
+use Rattle.host_engine.proofs.FieldLaws.{object_flat}
 use Rattle.host_engine.proofs.FlatLaws.{Flat, integer_head, flat_tail, at_most, frozen_weight, last_state}
 
 -- ---- the state and its patches
-pub value_kept : (ts : List Tree) (root : ℕ) (es : TableOf) (past seq turns : ℕ) → IsKept ts root es past seq turns → plain (tree_at ts root) ≡ state_of es
-value_kept ts root es past seq turns h = ap plain h.state ∙ plain_numbered root (state_of es)
+flat_value : (v : Plain) → IsTrue (is_flat v) → v ≡ state_of (table_of v)
+flat_value (plain_value.prim k) h = absurd (cc)
+flat_value (plain_value.node kind.Obj es) h = ap (plain_value.node kind.Obj) (sym (entries-list_of es))
+flat_value (plain_value.node kind.List es) h = absurd (cc)
+flat_value (plain_value.node kind.Map es) h = absurd (cc)
+flat_value (plain_value.node kind.Set es) h = absurd (cc)
 
-pub root_kept : (ts : List Tree) (root : ℕ) (es : TableOf) (past seq turns : ℕ) → IsKept ts root es past seq turns → number (tree_at ts root) ≡ root
-root_kept ts root es past seq turns h = ap number h.state ∙ flat_number root es h.flat
+-- the plain value of a flat state
+pub value_kept : (ts : List Tree) (root : ℕ) → IsFlatState ts root → plain (tree_at ts root) ≡ state_of (table_at ts root)
+value_kept ts root h = flat_value (plain (tree_at ts root)) h.flat
 
-between_states : (ds es : TableOf) → between (state_of ds) (state_of es) ≡ between_tables ds es
-between_states ds es = rw (list_of_entries ds, list_of_entries es) refl
-
-pub between_kept : (ts : List Tree) (root : ℕ) (es new : TableOf) (past seq turns : ℕ) → IsKept ts root es past seq turns → between (plain (tree_at ts root)) (state_of new) ≡ between_tables es new
-between_kept ts root es new past seq turns h = ap (λ (v : Plain). between v (state_of new)) (value_kept ts root es past seq turns h) ∙ between_states es new
+pub between_kept : (ts : List Tree) (root : ℕ) (new : TableOf) → between (plain (tree_at ts root)) (state_of new) ≡ between_tables (table_at ts root) new
+between_kept ts root new = rw (list_of_entries new) refl
 
 -- ---- opening
 no_posts : (next : ℕ) (v : Plain) → IsTrue (is_integer v) → post_order (numbered next v) ≡ []
@@ -58,6 +79,13 @@ table_fits es h a =
     let used_is : 0 + used_by (additions [] (state_of es)) ≡ weight (state_of es) = ap (λ (n : ℕ). 0 + n) (flat_used es h) ∙ (let z : 0 + weight (state_of es) ≡ weight (state_of es) = omega arith in z) in
     load_full_together [] (state_of es) (omega arith) (omega arith) ∙ rw (places_one, used_is, light (weight (state_of es)) (small_state (state_of es) a).weight) refl
 
+flat_table : (v : Plain) → IsTrue (is_flat v) → Flat (table_of v)
+flat_table (plain_value.prim k) h = absurd (cc)
+flat_table (plain_value.node kind.Obj es) h = h
+flat_table (plain_value.node kind.List es) h = absurd (cc)
+flat_table (plain_value.node kind.Map es) h = absurd (cc)
+flat_table (plain_value.node kind.Set es) h = absurd (cc)
+
 pub first_fits : (v : Plain) → IsTrue (is_flat v) → state_limit v ≡ None → load_full [] v ≡ false
 first_fits (plain_value.prim k) h a = absurd (cc)
 first_fits (plain_value.node kind.Obj es) h a =
@@ -76,27 +104,33 @@ first_number (plain_value.node kind.List es) h = absurd (cc)
 first_number (plain_value.node kind.Map es) h = absurd (cc)
 first_number (plain_value.node kind.Set es) h = absurd (cc)
 
-pub flat_state : (es : TableOf) (v : Plain) → state_of es ≡ v → IsTrue (is_flat v) → Flat es
-flat_state es v e h = ap is_flat_table (sym (list_of_entries es)) ∙ ap is_flat e ∙ h
-
-pub opened_kept : (es : TableOf) (ts : List Tree) (root : ℕ) → Flat es → root ≡ 1 → ts ≡ loaded [] (state_of es) → IsKept ts root es 0 0 0
-opened_kept es ts root h r t =
-    let all : ts ≡ numbered 1 (state_of es) ∷ [] = t ∙ flat_loaded es h in
+pub opened_kept : (v : Plain) (ts : List Tree) (root : ℕ) → IsTrue (is_flat v) → root ≡ 1 → ts ≡ loaded [] v → IsKept ts root 0 0 0 0
+opened_kept v ts root h r t =
+    let same = flat_value v h in
+    let flat : Flat (table_of v) = flat_table v h in
+    let all : ts ≡ numbered 1 (state_of (table_of v)) ∷ [] = t ∙ ap (loaded []) same ∙ flat_loaded (table_of v) flat in
     let one : length ts ≡ 1 = ap length all in
+    let tree : tree_at ts root ≡ numbered 1 (state_of (table_of v)) = λ i. tree_at (all i) (r i) in
     record {
-      number = (omega (arith, r), omega (arith, r, one));
-      state = (λ i. tree_at (all i) (r i)) ∙ ap (λ (n : ℕ). numbered n (state_of es)) (sym r);
-      flat = h;
+      state = record {
+        inside = (omega (arith, r), omega (arith, r, one));
+        named = ap number tree ∙ flat_number 1 (table_of v) flat ∙ sym r;
+        flat = ap is_flat (ap plain tree ∙ plain_numbered 1 (state_of (table_of v)) ∙ sym same) ∙ h;
+      };
+      mint_in = omega arith;
       past_in = omega arith;
       seq_in = omega arith;
       turns_in = omega arith;
     }
 
-pub opened_machine : (es : TableOf) (ts : List Tree) (root : ℕ) → Flat es → root ≡ 1 → ts ≡ loaded [] (state_of es) → machine_of ts root 0 0 ≡ opened (state_of es)
-opened_machine es ts root h r t =
-    let all : ts ≡ numbered 1 (state_of es) ∷ [] = t ∙ flat_loaded es h in
-    let next : length ts + 1 ≡ places (state_of es) + 1 = omega (arith, ap length all, flat_places es h) in
-    λ i. record { state = tree_at (all i) (r i); next = next i; used = used_by (t i); past = 0; seq = 0 }
+pub opened_machine : (v : Plain) (ts : List Tree) (root : ℕ) → IsTrue (is_flat v) → root ≡ 1 → ts ≡ loaded [] v → machine_of ts root 0 0 ≡ opened v
+opened_machine v ts root h r t =
+    let same = flat_value v h in
+    let flat : Flat (table_of v) = flat_table v h in
+    let all : ts ≡ numbered 1 (state_of (table_of v)) ∷ [] = t ∙ ap (loaded []) same ∙ flat_loaded (table_of v) flat in
+    let tree : tree_at ts root ≡ numbered 1 v = (λ i. tree_at (all i) (r i)) ∙ ap (numbered 1) (sym same) in
+    let next : length ts + 1 ≡ places v + 1 = omega (arith, ap length all, ap places same, flat_places (table_of v) flat) in
+    λ i. record { state = tree i; next = next i; used = used_by (t i); past = 0; seq = 0 }
 
 -- ---- a change
 last_number : (n : ℕ) → n < 2 ^ 21 → nat_lt 2097150 n ≡ true → n ≡ 2097151
@@ -120,40 +154,120 @@ new_state ts us es new c h =
     let id : c.root ≡ length ts + 1 = h.number ∙ grown ts us (frozen ts new) h.added in
     (λ i. tree_at (h.added i) (id i)) ∙ last_state ts (frozen ts new)
 
-pub changed_kept : (ts us : List Tree) (root past seq turns : ℕ) (es new : TableOf) (c : Change) → IsKept ts root es past seq turns → IsKeptChange ts us es new c → Flat new → turns < 2 ^ 48
-    → IsKept us c.root new (min (past + 1) 100) (seq + 1) (turns + 1)
-changed_kept ts us root past seq turns es new c k h f few =
+changed_state : (ts us : List Tree) (es new : TableOf) (c : Change) → IsKeptChange ts us es new c → Flat new → IsFlatState us c.root
+changed_state ts us es new c h f =
     let long = grown ts us (frozen ts new) h.added in
     let id : c.root ≡ length ts + 1 = h.number ∙ long in
+    let tree = new_state ts us es new c h in
     record {
-      number = (omega (arith, id), omega (arith, id, long));
-      state = new_state ts us es new c h ∙ ap (λ (n : ℕ). numbered n (state_of new)) (sym id);
-      flat = f;
-      past_in = omega arith;
-      seq_in = omega (arith, k.seq_in);
-      turns_in = omega (arith, few);
+      inside = (omega (arith, id), omega (arith, id, long));
+      named = ap number tree ∙ flat_number (length ts + 1) new f ∙ sym id;
+      flat = ap is_flat (ap plain tree ∙ plain_numbered (length ts + 1) (state_of new)) ∙ ap is_flat_table (list_of_entries new) ∙ f;
     }
 
-pub changed_machine : (ts us : List Tree) (root past seq : ℕ) (es new : TableOf) (c : Change) → IsKeptChange ts us es new c → Flat new → machine_of us c.root (min (past + 1) 100) (seq + 1) ≡ with_state (machine_of ts root past seq) (state_of new)
+changed_machine : (ts us : List Tree) (root past seq : ℕ) (es new : TableOf) (c : Change) → IsKeptChange ts us es new c → Flat new → machine_of us c.root (min (past + 1) 100) (seq + 1) ≡ with_state (machine_of ts root past seq) (state_of new)
 changed_machine ts us root past seq es new c h f =
     let next : length us + 1 ≡ length ts + 1 + 1 = ap (λ (n : ℕ). n + 1) (grown ts us (frozen ts new) h.added) in
     let room : used_by us ≡ used_by ts + weight (state_of new) =
     ap used_by h.added ∙ used_append ts (frozen ts new ∷ []) ∙ (let o = frozen_weight ts new f in omega (arith, o)) in
     λ i. record { state = new_state ts us es new c h i; next = next i; used = room i; past = min (past + 1) 100; seq = seq + 1 }
 
-pub small_weight : (w r : ℕ) → r ≡ min w (2 ^ 63) → r ≤ 2 ^ 20 → nat_lt (2 ^ 20) w ≡ false
-small_weight w r e h = at_most w (2 ^ 20) (omega (arith, e, h))
-
 -- ---- the reply to a change, by the limit that it is past
-pub change_accepted : (m m' : Machine) (pair : Pair) (new : Plain) → nat_lt (2 ^ 20) (weight new) ≡ false → is_full_of m (weight new) ≡ false → is_heavy_of (between (value m) new) ≡ false → pair ≡ between (value m) new
+change_accepted : (m m' : Machine) (pair : Pair) (new : Plain) → nat_lt (2 ^ 20) (weight new) ≡ false → is_full_of m (weight new) ≡ false → is_heavy_of (between (value m) new) ≡ false → pair ≡ between (value m) new
     → m' ≡ with_state m new → (let a : Machine × Reply = (m', reply.Changed word.Apply pair (number m'.state) m'.seq) in a ≡ changed m new)
 change_accepted m m' pair new w f h p e = rw (w, f, h) (λ i. (e i, reply.Changed word.Apply (p i) (number (e i).state) (e i).seq))
 
-pub change_heavy : (m : Machine) (new : Plain) → nat_lt (2 ^ 20) (weight new) ≡ false → is_full_of m (weight new) ≡ false → is_heavy_of (between (value m) new) ≡ true → refused m None refusal.PatchesTooBig ≡ changed m new
+change_heavy : (m : Machine) (new : Plain) → nat_lt (2 ^ 20) (weight new) ≡ false → is_full_of m (weight new) ≡ false → is_heavy_of (between (value m) new) ≡ true → refused m None refusal.PatchesTooBig ≡ changed m new
 change_heavy m new w f h = rw (w, f, h) refl
 
-pub change_full : (m : Machine) (new : Plain) → nat_lt (2 ^ 20) (weight new) ≡ false → is_full_of m (weight new) ≡ true → refused m None refusal.Full ≡ changed m new
+change_full : (m : Machine) (new : Plain) → nat_lt (2 ^ 20) (weight new) ≡ false → is_full_of m (weight new) ≡ true → refused m None refusal.Full ≡ changed m new
 change_full m new w f = rw (w, f) refl
+
+change_big : (m : Machine) (new : Plain) → nat_lt (2 ^ 20) (weight new) ≡ true → refused m None refusal.TooBig ≡ changed m new
+change_big m new w = rw w refl
+
+-- ---- the steps of the command, where its patches leave these entries of the root draft
+pub record IsApplied (ts : List Tree) (root : ℕ) (ps : List Patch) (new : TableOf) (wrote : Bool) : Type 0 where
+  pub state : IsFlatState ts root
+  pub flat : IsTrue (are_flat ps)
+  pub entries : Flat new
+  pub applied : applied_from 0 ps (state_of (table_at ts root)) ≡ Ok (state_of new)
+  pub written : writes ps (state_of (table_at ts root)) ≡ wrote
+
+judged_step : (ts : List Tree) (root past seq : ℕ) (ps : List Patch) (new : TableOf) (wrote : Bool) → IsApplied ts root ps new wrote → judged (machine_of ts root past seq) wrote (Ok (state_of new)) ≡ apply_step (machine_of ts root past seq) ps
+judged_step ts root past seq ps new wrote a = step_judged (machine_of ts root past seq) ps (state_of (table_at ts root)) wrote (Ok (state_of new)) (value_kept ts root a.state) a.flat a.applied a.written
+
+pub applied_change : (ts us : List Tree) (root : ℕ) (ps : List Patch) (new : TableOf) (c : Change) → length ts < 2 ^ 21 → IsApplied ts root ps new true → IsKeptChange ts us (table_at ts root) new c → IsAppliedChange ts us root ps c
+applied_change ts us root ps new c few a k =
+    let between = between_kept ts root new in
+    record {
+      state = changed_state ts us (table_at ts root) new c k a.entries;
+      step = λ past seq.
+          let m = machine_of ts root past seq in
+          let small = at_most (weight (state_of new)) (2 ^ 20) k.small in
+          let room = full_kept ts root past seq new a.entries few ∙ k.room in
+          change_accepted m (machine_of us c.root (min (past + 1) 100) (seq + 1)) c.pair (state_of new) small room (ap is_heavy_of between ∙ k.light) (k.pair ∙ sym between)
+          (changed_machine ts us root past seq (table_at ts root) new c k a.entries)
+          ∙ judged_step ts root past seq ps new true a;
+    }
+
+pub applied_nothing : (ts us : List Tree) (root : ℕ) (ps : List Patch) (new : TableOf) → us ≡ ts → IsApplied ts root ps new false → IsUnchanged ts us root ps
+applied_nothing ts us root ps new e a = record { stands = e; step = λ past seq. judged_step ts root past seq ps new false a }
+
+applied_big : (ts us : List Tree) (root : ℕ) (ps : List Patch) (new : TableOf) → IsApplied ts root ps new true → IsBigChange ts us new → IsRefused ts us root ps None refusal.TooBig
+applied_big ts us root ps new a k = record {
+  stands = k.stands;
+  step = λ past seq. change_big (machine_of ts root past seq) (state_of new) k.big ∙ judged_step ts root past seq ps new true a;
+}
+
+applied_full : (ts us : List Tree) (root : ℕ) (ps : List Patch) (new : TableOf) → length ts < 2 ^ 21 → IsApplied ts root ps new true → IsFullChange ts us new → IsRefused ts us root ps None refusal.Full
+applied_full ts us root ps new few a k = record {
+  stands = k.stands;
+  step = λ past seq.
+      let small = at_most (weight (state_of new)) (2 ^ 20) k.small in
+      change_full (machine_of ts root past seq) (state_of new) small (full_kept ts root past seq new a.entries few ∙ k.full) ∙ judged_step ts root past seq ps new true a;
+}
+
+applied_heavy : (ts us : List Tree) (root : ℕ) (ps : List Patch) (new : TableOf) → length ts < 2 ^ 21 → IsApplied ts root ps new true → IsHeavyChange ts us (table_at ts root) new → IsRefused ts us root ps None refusal.PatchesTooBig
+applied_heavy ts us root ps new few a k = record {
+  stands = k.stands;
+  step = λ past seq.
+      let small = at_most (weight (state_of new)) (2 ^ 20) k.small in
+      let room = full_kept ts root past seq new a.entries few ∙ k.room in
+      change_heavy (machine_of ts root past seq) (state_of new) small room (ap is_heavy_of (between_kept ts root new) ∙ k.heavy) ∙ judged_step ts root past seq ps new true a;
+}
+
+pub applied_stop : (ts us : List Tree) (root : ℕ) (ps : List Patch) (new : TableOf) (stop : ChangeStop) → length ts < 2 ^ 21 → IsApplied ts root ps new true → Changes ts us (table_at ts root) new (Err stop) → Applies ts us root ps (Err (change_stop stop))
+applied_stop ts us root ps new change.TooBig few a k = applied_big ts us root ps new a k
+applied_stop ts us root ps new change.Full few a k = applied_full ts us root ps new few a k
+applied_stop ts us root ps new change.PatchesTooBig few a k = applied_heavy ts us root ps new few a k
+applied_stop ts us root ps new change.Memory few a k = k
+
+-- patches that can't be applied, of a root draft that is as it was opened
+pub applied_fault : (ts : List Tree) (root : ℕ) (ps : List Patch) (old new : Option Content) (stop : EditStop) → IsFlatState ts root → IsTrue (are_flat ps) → entries_in old ≡ table_at ts root
+    → EditsAll old new ps (Err stop) → Applies ts ts root ps (Err (edit_stop stop))
+applied_fault ts root ps old new (edit.At at why) s f e a = record {
+  stands = refl;
+  step = λ past seq. step_refused (machine_of ts root past seq) ps (state_in old) (record { at = at; why = why }) (value_kept ts root s ∙ ap (λ (es : TableOf). state_of es) (sym e)) f a;
+}
+applied_fault ts root ps old new edit.Memory s f e a = refl
+
+-- what edits of the root draft come to, by the entries and the mark that it has then
+pub draft_applied : (ts : List Tree) (root : ℕ) (ps : List Patch) (old new : Option Content) (wrote : Bool) → IsFlatState ts root → IsTrue (are_flat ps) → entries_in old ≡ table_at ts root → is_marked old ≡ false → IsFlatObject new
+    → EditsAll old new ps (Ok tt) → is_marked new ≡ wrote → IsApplied ts root ps (entries_in new) wrote
+draft_applied ts root ps old new wrote s f e m flat edits w = record {
+  state = s;
+  flat = f;
+  entries = object_flat new flat;
+  applied = ap (λ (es : TableOf). applied_from 0 ps (state_of es)) (sym e) ∙ edits.0;
+  written = ap (λ (es : TableOf). writes ps (state_of es)) (sym e) ∙ sym (edits.1 ∙ ap (λ (b : Bool). b || writes ps (state_in old)) m) ∙ w;
+}
+
+-- the mark that a call answers is that of the root draft
+pub mark_answered : (ts : List Tree) (s : Scope) (v : Rv) (b : Bool) → Stands ts s → v ≡ root_draft (heap ts s) → (IsContainer (heap ts s) v → b ≡ marked (heap ts s) v) → is_marked (root_in ts s) ≡ b
+mark_answered ts s v b st is said =
+    let h = heap ts s in
+    sym (said (subst (IsContainer h) (sym is) (root_object ts s st)) ∙ ap (λ (x : Rv). is_marked (shown h x)) is)
 
 -- ---- the number at a path
 pub shown_some : (m : Machine) (o : Option Tree) (n : Option ℕ) → Some n ≡ option_map number_if o → (let a : Machine × Reply = (m, reply.Node n) in a ≡ node_shown m o)

@@ -1,6 +1,7 @@
+pub mod DraftLaws
 pub mod EditLaws
+pub mod FieldLaws
 pub mod FlatLaws
 pub mod HostLaws
 pub mod PairLaws
 pub mod PlaceLaws
-pub mod Tables

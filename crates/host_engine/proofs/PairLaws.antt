@@ -12,7 +12,7 @@ use Rattle.host_machine.specs.Differences.{patch, differences}
 use Rattle.host_machine.proofs.DifferenceLaws.{differences-none, differences-removed, differences-added, differences-less, differences-greater, differences-equal}
 use Rattle.host_engine.specs.Kept.{of_field}
 use Rattle.host_engine.specs.Pairs.{first_patches}
-use Rattle.host_engine.specs.declared.table.Field.{Field}
+use Rattle.host_engine.specs.declared.fields.Field.{Field}
 
 abbrev pub Sorted : TableOf → Type 0
 Sorted es = IsTrue (is_sorted key_cmp es)

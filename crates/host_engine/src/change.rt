@@ -1,20 +1,25 @@
-//! Keeping a change of the flat root: it is frozen as a node of the store, with the patches there and back.
-ghost use Rattle.std.specs.Prelude.{◌≡◌, ◌≤◌, ◌<◌, ◌^◌, ◌∷◌, ◌++◌, [], ℕ, List, length, map, IfOk, OnOk, OnErr, IsErrOf, IsTrue, true, false};
-ghost use Rattle.value_model.specs.Plain.{weight as weight_of};
-ghost use Rattle.numbered.specs.Store.{is_full};
+//! Keeping a change of a flat root: the root draft is frozen as a node of the store, with the patches there and back.
+ghost use Rattle.std.specs.Prelude.{◌≡◌, ◌≤◌, ◌<◌, ◌^◌, List, length, map, IfOk, IsTrue};
+ghost use Rattle.std.specs.FinMap.Entries.{is_sorted};
+ghost use Rattle.value_model.specs.Order.{key_cmp};
 ghost use Rattle.numbered.specs.Tree.{Tree};
 ghost use Rattle.node_store.specs.Added.{state_of as node_state};
 ghost use Rattle.node_store.specs.Nodes.{CellsBelow};
 ghost use Rattle.host_machine.specs.Flat.{is_flat_table};
 ghost use Rattle.host_machine.specs.Machine.{is_heavy as is_heavy_of};
-ghost use Rattle.host_engine.specs.Kept.{of_field, state_of};
-ghost use Rattle.host_engine.specs.Frozen.{frozen, key_of, cell_of, Changes, Pairs};
+ghost use Rattle.host_engine.specs.Drafts.{IsFlatScope, entries_in, root_in};
+ghost use Rattle.host_engine.specs.Kept.{IsFlatState, of_field, table_at};
+ghost use Rattle.host_engine.specs.Frozen.{frozen, key_of, cell_of, Changes, Plans, between_tables};
 
+use crate::fields::{Field, fields_of, object_weight};
 use crate::pairs::{differences, patches_weight};
-use crate::table::{Field, Table};
+use draft_core::{Rv, Scope};
 use node_store::{Cell, Cells, Keys, Node, NodeId, Store, StoreFault};
 use plain_values::{Key, Kind, Pair};
 use std::alloc::{AllocError, Global};
+
+/// What a state may weigh.
+const MAX_WEIGHT: u64 = 1 << 20;
 
 /// What the patches of a change may weigh, there and back together.
 const MAX_PATCHES: u64 = 1 << 22;
@@ -26,9 +31,11 @@ pub struct Change {
     pub pair: Pair,
 }
 
-/// Why a change was not kept.
+/// Why a change was not kept, of several limits the first.
 #[derive(Clone, Copy, Debug, Drop, PartialEq, Eq)]
 pub enum ChangeStop {
+    /// The state weighs too much.
+    TooBig,
     /// No number or no room is left for the new state.
     Full,
     /// The patches weigh too much.
@@ -46,53 +53,69 @@ impl From<AllocError> for ChangeStop {
     }
 }
 
-/// Keeps the state of the new table under the next number. Where that is refused, or memory runs out, the store is as before.
+/// A change that is to be kept.
+#[derive(Drop)]
+pub struct Plan {
+    pub node: Node,
+    pub pair: Pair,
+}
+
+/// Keeps the state of the root draft under the next number. Where that is refused, or memory runs out, the store is as before.
 pub fn keep(
     store: &mut Store,
     alloc: Global,
-    old: &Table,
-    new: &Table,
+    root: NodeId,
+    scope: &Scope,
 ) -> Result<Change, ChangeStop>
-    requires flat { IsTrue (is_flat_table new.now) }
-    requires small { weight_of (state_of new.now) ≤ 2 ^ 20 }
-    ensures change { Changes store.old store.new old.now new.now result }
+    requires state { IsFlatState store.old root }
+    requires scope { IsFlatScope store.old scope.now }
+    ensures change { Changes store.old store.new (table_at store.old root) (entries_in (root_in store.old scope.now)) result }
     ensures few { length store.old < 2 ^ 21 }
 {
     let _few = store.len();
+    let Plan { node, pair } = plan_change(store, alloc, root, scope)?;
     let mark = store.mark();
-    let root = match freeze(store, alloc, new) {
+    let root = match store.add(alloc, node) {
         Ok(root) => root,
         Err(StoreFault::Full) => return Err(ChangeStop::Full),
         Err(StoreFault::Memory) => return Err(ChangeStop::Memory),
     };
-    match light_pair(alloc, old, new) {
-        Ok(pair) => Ok(Change { root, pair }),
-        Err(stop) => {
-            store.cut_to(mark);
-            Err(stop)
-        }
+    if is_heavy(&pair) {
+        store.cut_to(mark);
+        return Err(ChangeStop::PatchesTooBig);
     }
+    Ok(Change { root, pair })
 }
 
-/// Adds the object of a table to the store, and answers its number, which is the next one.
-fn freeze(store: &mut Store, alloc: Global, table: &Table) -> Result<NodeId, StoreFault>
-    requires flat { IsTrue (is_flat_table table.now) }
-    requires small { weight_of (state_of table.now) ≤ 2 ^ 20 }
-    ensures ok { IfOk result (λ id. (id ≡ length store.new) × (store.new ≡ store.old ++ frozen store.old table.now ∷ [])) }
-    ensures room { OnOk result (is_full store.old (frozen store.old table.now) ≡ false) }
-    ensures only { IsErrOf result StoreFault.Full → is_full store.old (frozen store.old table.now) ≡ true }
-    ensures stands { OnErr result (store.new ≡ store.old) }
+/// The node of the root draft, and the patches to it from the state under the number and back.
+fn plan_change(
+    store: &Store,
+    alloc: Global,
+    root: NodeId,
+    scope: &Scope,
+) -> Result<Plan, ChangeStop>
+    requires state { IsFlatState store.now root }
+    requires scope { IsFlatScope store.now scope.now }
+    ensures { Plans (table_at store.now root) (entries_in (root_in store.now scope.now)) result }
 {
-    let node = node_of(alloc, table)?;
-    store.add(alloc, node)
+    let old = fields_of(alloc, store, scope, &Rv::Frozen(root))?;
+    let new = fields_of(alloc, store, scope, &scope.root())?;
+    if object_weight(&new) > MAX_WEIGHT {
+        return Err(ChangeStop::TooBig);
+    }
+    Ok(Plan {
+        node: node_of(alloc, &new)?,
+        pair: pair_of(alloc, &old, &new)?,
+    })
 }
 
-/// The object of a table as a node.
-fn node_of(alloc: Global, table: &Table) -> Result<Node, AllocError>
-    ensures state { IfOk result (λ n. (ts : List Tree) → node_state ts n ≡ frozen ts table.now) }
+/// The object of these entries as a node.
+fn node_of(alloc: Global, fields: &[Field]) -> Result<Node, AllocError>
+    requires sorted { IsTrue (is_sorted key_cmp (map of_field fields.now)) }
+    requires flat { IsTrue (is_flat_table (map of_field fields.now)) }
+    ensures state { IfOk result (λ n. (ts : List Tree) → node_state ts n ≡ frozen ts (map of_field fields.now)) }
     ensures below { IfOk result (λ n. (ts : List Tree) → CellsBelow ts n.cells) }
 {
-    let fields = table.fields();
     let keys = keys_of(alloc, fields)?;
     let cells = cells_of(alloc, fields)?;
     Ok(Node {
@@ -107,7 +130,7 @@ fn keys_of(alloc: Global, fields: &[Field]) -> Result<Vec<Key>, AllocError>
 {
     let mut out = Vec::with_capacity(alloc, fields.len())?;
     for f in fields {
-        out.push(Key::Text(f.name.text().copy(alloc)?))?;
+        out.push(f.key.copy(alloc)?)?;
     }
     Ok(out)
 }
@@ -122,19 +145,16 @@ fn cells_of(alloc: Global, fields: &[Field]) -> Result<Vec<Cell>, AllocError>
     Ok(out)
 }
 
-/// The patches from one table to another and back, within their limit.
-fn light_pair(alloc: Global, old: &Table, new: &Table) -> Result<Pair, ChangeStop>
-    ensures { Pairs old.now new.now result }
+/// The patches from the old entries to the new ones and back.
+fn pair_of(alloc: Global, old: &[Field], new: &[Field]) -> Result<Pair, AllocError>
+    requires old_sorted { IsTrue (is_sorted key_cmp (map of_field old.now)) }
+    requires new_sorted { IsTrue (is_sorted key_cmp (map of_field new.now)) }
+    ensures { IfOk result (λ p. p ≡ between_tables (map of_field old.now) (map of_field new.now)) }
 {
-    let pair = Pair {
+    Ok(Pair {
         forward: differences(alloc, old, new)?,
         inverse: differences(alloc, new, old)?,
-    };
-    if is_heavy(&pair) {
-        Err(ChangeStop::PatchesTooBig)
-    } else {
-        Ok(pair)
-    }
+    })
 }
 
 fn is_heavy(pair: &Pair) -> bool

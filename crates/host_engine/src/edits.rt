@@ -1,17 +1,16 @@
-//! Patches applied to the table of a flat state.
-ghost use Rattle.std.specs.Prelude.{◌≡◌, ◌∷◌, [], Some, None, MatchOption, IsTrue, false};
-ghost use Rattle.value_model.specs.Limits.{is_long_text, is_reserved_text};
-ghost use Rattle.value_model.specs.Plain.{prim};
-ghost use Rattle.value_model.specs.declared.key.Key.TheVariants as key;
+//! Patches applied to the root draft of a flat state.
+ghost use Rattle.std.specs.Prelude.{◌≡◌, ◌∷◌, [], Some, None, MatchOption, IsTrue, OnOk, false};
 ghost use Rattle.value_model.specs.declared.words.Op.TheVariants as op;
 ghost use Rattle.patch_meaning.specs.Applying.{in_object};
 ghost use Rattle.host_machine.specs.Flat.{is_integer, is_text_key, is_flat_path, is_flat_patch, are_flat};
-ghost use Rattle.host_engine.specs.Edits.{Edits, EditsState, EditsAll, is_number};
+ghost use Rattle.host_engine.specs.Drafts.{IsFlatScope, entries_in, root_in};
+ghost use Rattle.host_engine.specs.Edits.{Edits, EditsState, EditsAll, MayStop, is_number, stop_of};
 ghost use Rattle.host_engine.specs.Kept.{number_of};
 
-use crate::table::Table;
-use plain_values::{Key, Node, Op, Patch, PatchWhy, Safe, Text, Val};
-use std::alloc::{AllocError, Global};
+use crate::fields::number_of_key;
+use draft_core::{DraftFault, Rv, Scope, Store};
+use plain_values::{Key, Node, Patch, PatchWhy, Safe, Val};
+use std::alloc::Global;
 
 /// Why an edit was not made.
 #[derive(Clone, Copy, Debug, Drop, PartialEq, Eq)]
@@ -20,60 +19,58 @@ pub enum EditFault {
     Memory,
 }
 
-impl From<AllocError> for EditFault {
-    ghost use Rattle.host_engine.specs.declared.edits.EditFault.TheVariants.{Memory};
-
-    ghost from_gives = { λ _ e. e ≡ Memory };
-
-    fn from(_: AllocError) -> Self {
-        EditFault::Memory
-    }
-}
-
 /// Why a list of patches was not applied: the position of the patch, and why.
 #[derive(Clone, Copy, Debug, Drop, PartialEq, Eq)]
-pub enum ApplyStop {
+pub enum EditStop {
     At { at: u64, why: PatchWhy },
     Memory,
 }
 
-/// Applies the patches to the table one after another, and says whether one of them changed it when it was applied.
-pub fn edit_all(alloc: Global, table: &mut Table, patches: &[Patch]) -> Result<bool, ApplyStop>
-    requires { IsTrue (are_flat patches.now) }
-    ensures { EditsAll table.old table.new patches.now result }
+/// Applies the patches to the root draft one after another. It is then marked where one of them changed it when it was applied.
+pub fn edit_all(
+    alloc: Global,
+    store: &Store,
+    scope: &mut Scope,
+    patches: &[Patch],
+) -> Result<(), EditStop>
+    requires scope { IsFlatScope store.now scope.old }
+    requires patches { IsTrue (are_flat patches.now) }
+    ensures edits { EditsAll (root_in store.now scope.old) (root_in store.now scope.new) patches.now result }
+    ensures scope { OnOk result (IsFlatScope store.now scope.new) }
 {
-    let mut wrote = false;
     for (i, patch) in patches.iter().enumerate() {
-        match edit(alloc, table, patch) {
-            Ok(changed) => wrote = wrote || changed,
-            Err(EditFault::Refused(why)) => return Err(ApplyStop::At { at: i as u64, why }),
-            Err(EditFault::Memory) => return Err(ApplyStop::Memory),
+        match edit(alloc, store, scope, patch) {
+            Ok(()) => {}
+            Err(EditFault::Refused(why)) => return Err(EditStop::At { at: i as u64, why }),
+            Err(EditFault::Memory) => return Err(EditStop::Memory),
         }
     }
-    Ok(wrote)
+    Ok(())
 }
 
 /// Applies one patch.
-fn edit(alloc: Global, table: &mut Table, patch: &Patch) -> Result<bool, EditFault>
-    requires { IsTrue (is_flat_patch patch.now) }
-    ensures { EditsState table.old table.new patch.now.op patch.now.value patch.now.path result }
+fn edit(alloc: Global, store: &Store, scope: &mut Scope, patch: &Patch) -> Result<(), EditFault>
+    requires scope { IsFlatScope store.now scope.old }
+    requires patch { IsTrue (is_flat_patch patch.now) }
+    ensures edits { EditsState (root_in store.now scope.old) (root_in store.now scope.new) patch.now.op patch.now.value patch.now.path result }
+    ensures scope { OnOk result (IsFlatScope store.now scope.new) }
 {
-    let Some(name) = name_in(patch) else {
+    let Some(key) = step_in(patch) else {
         unreachable!()
     };
     match number_in(patch) {
-        Some(number) => set_entry(alloc, table, name, number),
-        None => unset_entry(table, name),
+        Some(number) => set_entry(alloc, store, scope, key, number),
+        None => unset_entry(alloc, store, scope, key),
     }
 }
 
-/// The one name of the path.
-fn name_in(patch: &Patch) -> Option<&Text>
-    ensures { MatchOption result (is_flat_path patch.now.path ≡ false) (λ s. patch.now.path ≡ key.Text s.now ∷ []) }
+/// The one step of the path.
+fn step_in(patch: &Patch) -> Option<&Key>
+    ensures { MatchOption result (is_flat_path patch.now.path ≡ false) (λ k. patch.now.path ≡ k.now ∷ []) }
 {
     let steps = patch.path.as_slice();
     if steps.len() == 1 {
-        text_in(&steps[0])
+        Some(&steps[0])
     } else {
         None
     }
@@ -89,52 +86,8 @@ fn number_in(patch: &Patch) -> Option<Safe>
     }
 }
 
-fn set_entry(alloc: Global, table: &mut Table, name: &Text, number: Safe) -> Result<bool, EditFault>
-    ensures { Edits table.old table.new (in_object op.Add (key.Text name.now) (Some (number_of number)) table.old) result }
-{
-    if is_reserved(name) {
-        return Err(EditFault::Refused(PatchWhy::ReservedKey));
-    }
-    if is_long(name) {
-        return Err(EditFault::Refused(PatchWhy::KeyTooLong));
-    }
-    Ok(table.set(alloc, name, number)?)
-}
-
-fn unset_entry(table: &mut Table, name: &Text) -> Result<bool, EditFault>
-    ensures { Edits table.old table.new (in_object op.Remove (key.Text name.now) None table.old) result }
-{
-    if is_reserved(name) {
-        return Err(EditFault::Refused(PatchWhy::ReservedKey));
-    }
-    Ok(table.unset(name))
-}
-
-fn is_reserved(name: &Text) -> bool
-    ensures { result ≡ is_reserved_text name.now }
-{
-    let name = name.as_str();
-    name == "__proto__" || name == "constructor" || name == "prototype"
-}
-
-fn is_long(name: &Text) -> bool
-    ensures { result ≡ is_long_text name.now }
-{
-    name.as_str().len() > 1024
-}
-
-/// The text that a step is.
-fn text_in(step: &Key) -> Option<&Text>
-    ensures { MatchOption result (is_text_key step.now ≡ false) (λ s. step.now ≡ key.Text s.now) }
-{
-    match step {
-        Key::Text(text) => Some(text),
-        _ => None,
-    }
-}
-
 /// The integer that a value is.
-pub fn integer_in(value: &Val) -> Option<Safe>
+fn integer_in(value: &Val) -> Option<Safe>
     ensures { MatchOption result (is_integer value.now ≡ false) (λ n. value.now ≡ number_of n) }
 {
     match &value.node {
@@ -143,11 +96,47 @@ pub fn integer_in(value: &Val) -> Option<Safe>
     }
 }
 
-fn number_of_key(step: &Key) -> Option<Safe>
-    ensures { MatchOption result (is_integer (prim step.now) ≡ false) (λ n. step.now ≡ key.Int n) }
+fn set_entry(
+    alloc: Global,
+    store: &Store,
+    scope: &mut Scope,
+    key: &Key,
+    number: Safe,
+) -> Result<(), EditFault>
+    requires scope { IsFlatScope store.now scope.old }
+    requires text { IsTrue (is_text_key key.now) }
+    ensures edits { Edits (root_in store.now scope.old) (root_in store.now scope.new) (in_object op.Add key.now (Some (number_of number)) (entries_in (root_in store.now scope.old))) result }
+    ensures scope { OnOk result (IsFlatScope store.now scope.new) }
 {
-    match step {
-        Key::Int(number) => Some(*number),
-        _ => None,
+    let root = scope.root();
+    match scope.put(alloc, store, &root, key, Rv::Prim(Key::Int(number))) {
+        Ok(()) => Ok(()),
+        Err(fault) => Err(stopped(fault)),
+    }
+}
+
+fn unset_entry(alloc: Global, store: &Store, scope: &mut Scope, key: &Key) -> Result<(), EditFault>
+    requires scope { IsFlatScope store.now scope.old }
+    requires text { IsTrue (is_text_key key.now) }
+    ensures edits { Edits (root_in store.now scope.old) (root_in store.now scope.new) (in_object op.Remove key.now None (entries_in (root_in store.now scope.old))) result }
+    ensures scope { OnOk result (IsFlatScope store.now scope.new) }
+{
+    let root = scope.root();
+    match scope.remove(alloc, store, &root, key) {
+        Ok(()) => Ok(()),
+        Err(fault) => Err(stopped(fault)),
+    }
+}
+
+/// The refusal of a patch by that of the root draft.
+fn stopped(fault: DraftFault) -> EditFault
+    requires { MayStop fault }
+    ensures { result ≡ stop_of fault }
+{
+    match fault {
+        DraftFault::ReservedKey => EditFault::Refused(PatchWhy::ReservedKey),
+        DraftFault::KeyTooLong => EditFault::Refused(PatchWhy::KeyTooLong),
+        DraftFault::Memory => EditFault::Memory,
+        _ => unreachable!(),
     }
 }

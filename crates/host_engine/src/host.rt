@@ -6,21 +6,16 @@ ghost use Rattle.plain_values.specs.declared.command.Word.TheVariants as word;
 ghost use Rattle.plain_values.specs.declared.reply.Reply.TheVariants as reply;
 ghost use Rattle.value_model.specs.Places.{at};
 ghost use Rattle.host_machine.specs.Paths.{subtree_at};
-ghost use Rattle.host_machine.specs.Machine.{value, opened, no_path, state_shown, node_shown, counted, step, apply_step, changed, accepted, refused as refused_by, no_patches};
+ghost use Rattle.host_machine.specs.Machine.{value, opened, no_path, state_shown, node_shown, counted, step, apply_step, no_patches as no_patches_of};
 ghost use Rattle.numbered.specs.Loading.{loaded};
-ghost use Rattle.host_engine.specs.Kept.{state_of};
 
-use crate::change::{ChangeStop, keep};
-use crate::edits::{ApplyStop, edit_all};
+use crate::apply::{Stop, apply};
 use crate::places::{number_at, value_at};
-use crate::table::Table;
+use draft_core::ScopeMint;
 use node_store::{NodeId, Store, StoreFault};
 use plain_values::{Command, Pair, Patches, Path, Refusal, Reply, Val, Word};
 use std::alloc::{AllocError, Global};
 use std::marker::Model;
-
-/// What a state may weigh.
-const MAX_WEIGHT: u64 = 1 << 20;
 
 /// How many past changes are kept.
 const MAX_PAST: u64 = 100;
@@ -32,8 +27,8 @@ const MAX_PAST: u64 = 100;
 pub struct Host {
     store: Store,
     root: NodeId,
-    /// The entries of the root, in the form in which patches edit them.
-    table: Table,
+    /// Gives the scope of each command its number.
+    mint: ScopeMint,
     past: u64,
     seq: u64,
     turns: u64,
@@ -51,7 +46,7 @@ impl Model for Host {
 
     ghost view = { λ h. record { machine = machine_of h.store h.root h.past h.seq; turns = h.turns } };
 
-    ghost invariant = { λ h. IsKept h.store h.root h.table h.past h.seq h.turns };
+    ghost invariant = { λ h. IsKept h.store h.root h.mint h.past h.seq h.turns };
 }
 
 impl Host {
@@ -62,13 +57,12 @@ impl Host {
         ensures machine { IfOk result (λ h. h.machine ≡ opened first.now) }
         ensures turns { IfOk result (λ h. h.turns ≡ 0) }
     {
-        let table = Table::of(alloc, first)?;
         let mut store = Store::new(alloc)?;
         let root = load_first(&mut store, alloc, first)?;
         Ok(Host {
             store,
             root,
-            table,
+            mint: ScopeMint::new(),
             past: 0,
             seq: 0,
             turns: 0,
@@ -98,6 +92,8 @@ impl Host {
         }
     }
 
+    /// Applies patches to a draft of the state, and keeps the change. A scope ends with its command: where memory ran out, its
+    /// number may be given again.
     fn apply(self, alloc: Global, patches: Patches) -> Result<(Host, Reply), Host>
         requires turns { self.turns < 2 ^ 48 }
         requires flat { IsTrue (are_flat patches) }
@@ -105,14 +101,36 @@ impl Host {
         ensures turns { IfOk result (λ r. r.0.turns ≡ self.turns + 1) }
         ensures err { IfErr result (λ h. h ≡ self) }
     {
-        let Ok(mut table) = self.table.copy(alloc) else {
-            return Err(self);
-        };
-        match edit_all(alloc, &mut table, patches.as_slice()) {
-            Ok(true) => self.change(alloc, table),
-            Ok(false) => Ok(self.unchanged(alloc)),
-            Err(ApplyStop::At { at, why }) => Ok(self.refused(Some(at), Refusal::of_patch(why))),
-            Err(ApplyStop::Memory) => Err(self),
+        let mut host = self;
+        host.turns += 1;
+        let ticket = host.mint.take();
+        match apply(
+            &mut host.store,
+            alloc,
+            ticket,
+            host.root,
+            patches.as_slice(),
+        ) {
+            Ok(Some(change)) => {
+                host.root = change.root;
+                host.past = (host.past + 1).min(MAX_PAST);
+                host.seq += 1;
+                let reply = host.accepted(change.pair);
+                Ok((host, reply))
+            }
+            Ok(None) => {
+                let reply = host.accepted(no_patches(alloc));
+                Ok((host, reply))
+            }
+            Err(Stop::Refused { at, why }) => {
+                let word = Word::Apply;
+                Ok((host, Reply::No { word, at, why }))
+            }
+            Err(Stop::Memory) => {
+                host.turns -= 1;
+                host.mint = ScopeMint::new();
+                Err(host)
+            }
         }
     }
 
@@ -181,56 +199,6 @@ impl Host {
         (self.turned(), Reply::No { word, at, why })
     }
 
-    /// A change to the state of a table, judged by the limits.
-    fn change(self, alloc: Global, table: Table) -> Result<(Host, Reply), Host>
-        requires turns { self.turns < 2 ^ 48 }
-        ensures step { IfOk result (λ r. (r.0.machine, r.1) ≡ changed self.machine (state_of table)) }
-        ensures turns { IfOk result (λ r. r.0.turns ≡ self.turns + 1) }
-        ensures err { IfErr result (λ h. h ≡ self) }
-    {
-        if table.weight() > MAX_WEIGHT {
-            return Ok(self.refused(None, Refusal::TooBig));
-        }
-        let mut host = self;
-        match keep(&mut host.store, alloc, &host.table, &table) {
-            Ok(change) => {
-                host.root = change.root;
-                host.table = table;
-                host.past = (host.past + 1).min(MAX_PAST);
-                host.seq += 1;
-                host.turns += 1;
-                let reply = host.accepted(change.pair);
-                Ok((host, reply))
-            }
-            Err(ChangeStop::Full) => Ok(host.refused(None, Refusal::Full)),
-            Err(ChangeStop::PatchesTooBig) => Ok(host.refused(None, Refusal::PatchesTooBig)),
-            Err(ChangeStop::Memory) => Err(host),
-        }
-    }
-
-    /// The host after a refused command, which left all as it was.
-    fn refused(self, at: Option<u64>, why: Refusal) -> (Host, Reply)
-        requires { self.turns < 2 ^ 48 }
-        ensures step { (result.0.machine, result.1) ≡ refused_by self.machine at why }
-        ensures turns { result.0.turns ≡ self.turns + 1 }
-    {
-        let word = Word::Apply;
-        (self.turned(), Reply::No { word, at, why })
-    }
-
-    /// The host after a command that changed nothing.
-    fn unchanged(self, alloc: Global) -> (Host, Reply)
-        requires { self.turns < 2 ^ 48 }
-        ensures step { (result.0.machine, result.1) ≡ accepted self.machine no_patches }
-        ensures turns { result.0.turns ≡ self.turns + 1 }
-    {
-        let host = self.turned();
-        let forward = Patches::from_vec(Vec::new(alloc));
-        let inverse = Patches::from_vec(Vec::new(alloc));
-        let reply = host.accepted(Pair { forward, inverse });
-        (host, reply)
-    }
-
     /// The reply to an accepted command with these patches.
     fn accepted(&self, pair: Pair) -> Reply
         ensures { result ≡ reply.Changed word.Apply pair (number self.now.machine.state) self.now.machine.seq }
@@ -241,6 +209,15 @@ impl Host {
             root: self.root.get(),
             seq: self.seq,
         }
+    }
+}
+
+fn no_patches(alloc: Global) -> Pair
+    ensures { result ≡ no_patches_of }
+{
+    Pair {
+        forward: Patches::from_vec(Vec::new(alloc)),
+        inverse: Patches::from_vec(Vec::new(alloc)),
     }
 }
 

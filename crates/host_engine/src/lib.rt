@@ -3,12 +3,12 @@
 //! What it does is the host machine of `host_machine`.
 #![tactic(auto)]
 
+mod apply;
 mod change;
 mod edits;
+mod fields;
 mod host;
-mod name;
 mod pairs;
 mod places;
-mod table;
 
 pub use host::Host;

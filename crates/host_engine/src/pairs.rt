@@ -1,25 +1,24 @@
-//! The patches from one table to another.
-ghost use Rattle.std.specs.Prelude.{◌≡◌, ◌≤◌, ◌^◌, ◌+◌, ◌++◌, ◌∷◌, [], min, map, length, drop, IfOk, IsTrue, Some, None, OnOk, ◌⊎◌};
+//! The patches from the entries of one object of integers to those of another.
+ghost use Rattle.std.specs.Prelude.{◌≡◌, ◌≤◌, ◌^◌, ◌+◌, ◌++◌, ◌∷◌, [], min, map, length, drop, IfOk, IsTrue, Some, None, not, OnOk, ◌⊎◌};
 ghost use Rattle.std.specs.FinMap.Entries.{is_sorted};
 ghost use Rattle.value_model.specs.Order.{key_cmp};
 ghost use Rattle.value_model.specs.declared.key.Key.TheVariants as key;
 ghost use Rattle.value_model.specs.declared.words.Op.TheVariants as op;
-ghost use Rattle.host_machine.specs.Differences.{patch as patch_of, differences as differences_of, path_weight as weight_of_path, value_weight as weight_of_value, patch_weight as weight_of_patch, patches_weight as weight_of_patches};
+ghost use Rattle.host_machine.specs.Differences.{same, patch as patch_of, differences as differences_of, path_weight as weight_of_path, value_weight as weight_of_value, patch_weight as weight_of_patch, patches_weight as weight_of_patches};
 ghost use Rattle.host_engine.specs.Kept.{of_field, number_of};
 ghost use Rattle.host_engine.specs.Pairs.{first_patches};
 
-use crate::name::Name;
-use crate::table::{Field, Table, compare_texts, is_other};
-use plain_values::{Key, Op, Patch, Patches, Path, Safe, Text, Val, key_weight, weight};
+use crate::fields::{Field, capped};
+use plain_values::{Key, Op, Patch, Patches, Path, Safe, Val, key_weight, weight};
 use std::alloc::{AllocError, Global};
 use std::cmp::Ordering;
 
-/// The patches that carry the old table to the new one, over the names of both in their order.
-pub fn differences(alloc: Global, old: &Table, new: &Table) -> Result<Patches, AllocError>
-    ensures { IfOk result (λ ps. ps ≡ differences_of old.now new.now) }
+/// The patches that carry the old entries to the new ones, over the keys of both in their order.
+pub fn differences(alloc: Global, old: &[Field], new: &[Field]) -> Result<Patches, AllocError>
+    requires old_sorted { IsTrue (is_sorted key_cmp (map of_field old.now)) }
+    requires new_sorted { IsTrue (is_sorted key_cmp (map of_field new.now)) }
+    ensures { IfOk result (λ ps. ps ≡ differences_of (map of_field old.now) (map of_field new.now)) }
 {
-    let old = old.fields();
-    let new = new.fields();
     let merged = merge(alloc, old, new)?;
     let mut list = merged.list;
     push_removed(alloc, &mut list, &old[merged.old_at..])?;
@@ -27,7 +26,7 @@ pub fn differences(alloc: Global, old: &Table, new: &Table) -> Result<Patches, A
     Ok(Patches::from_vec(list))
 }
 
-/// The patches up to the end of one of two tables, and how far they came in each.
+/// The patches up to the end of one of two lists of entries, and how far they came in each.
 #[derive(Drop)]
 struct Merged {
     list: Vec<Patch>,
@@ -64,27 +63,39 @@ fn merge(alloc: Global, old: &[Field], new: &[Field]) -> Result<Merged, AllocErr
     })
 }
 
-/// The patches of the lower of two names, which stands first in the old table, the new one, or both; and how they compare.
+/// The patches of the lower of two keys, which stands first in the old entries, the new ones, or both; and how they compare.
 fn push_first(
     alloc: Global,
     list: &mut Vec<Patch>,
     old: &Field,
     new: &Field,
 ) -> Result<Ordering, AllocError>
-    ensures order { IfOk result (λ o. o ≡ key_cmp (key.Text old.now.name) (key.Text new.now.name)) }
+    ensures order { IfOk result (λ o. o ≡ key_cmp old.now.key.now new.now.key.now) }
     ensures patches { IfOk result (λ o. list.new.items ≡ list.old.items ++ first_patches o (of_field old.now) (of_field new.now)) }
 {
-    let order = compare_texts(old.name.text(), new.name.text());
+    let order = old.key.compare(new.key);
     match order {
-        Ordering::Less => list.push(removing(alloc, &old.name)?)?,
-        Ordering::Greater => list.push(setting(alloc, Op::Add, &new.name, new.number)?)?,
+        Ordering::Less => list.push(removing(alloc, old.key)?)?,
+        Ordering::Greater => list.push(setting(alloc, Op::Add, new.key, new.number)?)?,
         Ordering::Equal => {
             if is_other(old.number, new.number) {
-                list.push(setting(alloc, Op::Replace, &old.name, new.number)?)?;
+                list.push(setting(alloc, Op::Replace, old.key, new.number)?)?;
             }
         }
     }
     Ok(order)
+}
+
+fn is_other(a: Safe, b: Safe) -> bool
+    ensures { result ≡ not (same (number_of a) (number_of b)) }
+{
+    compare_numbers(a, b).is_ne()
+}
+
+fn compare_numbers(a: Safe, b: Safe) -> Ordering
+    ensures { result ≡ key_cmp (key.Int a) (key.Int b) }
+{
+    a.get().cmp(&b.get())
 }
 
 fn push_removed(alloc: Global, list: &mut Vec<Patch>, old: &[Field]) -> Result<(), AllocError>
@@ -92,7 +103,7 @@ fn push_removed(alloc: Global, list: &mut Vec<Patch>, old: &[Field]) -> Result<(
     ensures { OnOk result (list.new.items ≡ list.old.items ++ differences_of (map of_field old.now) []) }
 {
     for f in old {
-        list.push(removing(alloc, &f.name)?)?;
+        list.push(removing(alloc, f.key)?)?;
     }
     Ok(())
 }
@@ -102,36 +113,36 @@ fn push_added(alloc: Global, list: &mut Vec<Patch>, new: &[Field]) -> Result<(),
     ensures { OnOk result (list.new.items ≡ list.old.items ++ differences_of [] (map of_field new.now)) }
 {
     for f in new {
-        list.push(setting(alloc, Op::Add, &f.name, f.number)?)?;
+        list.push(setting(alloc, Op::Add, f.key, f.number)?)?;
     }
     Ok(())
 }
 
-fn setting(alloc: Global, op: Op, name: &Name, number: Safe) -> Result<Patch, AllocError>
-    ensures { IfOk result (λ p. p ≡ patch_of op (key.Text name.now) (Some (number_of number))) }
+fn setting(alloc: Global, op: Op, key: &Key, number: Safe) -> Result<Patch, AllocError>
+    ensures { IfOk result (λ p. p ≡ patch_of op key.now (Some (number_of number))) }
 {
     Ok(Patch {
         op,
-        path: path_to(alloc, name.text())?,
+        path: path_to(alloc, key)?,
         value: Some(Val::primitive(Key::Int(number))),
     })
 }
 
-fn removing(alloc: Global, name: &Name) -> Result<Patch, AllocError>
-    ensures { IfOk result (λ p. p ≡ patch_of op.Remove (key.Text name.now) None) }
+fn removing(alloc: Global, key: &Key) -> Result<Patch, AllocError>
+    ensures { IfOk result (λ p. p ≡ patch_of op.Remove key.now None) }
 {
     Ok(Patch {
         op: Op::Remove,
-        path: path_to(alloc, name.text())?,
+        path: path_to(alloc, key)?,
         value: None,
     })
 }
 
-fn path_to(alloc: Global, name: &Text) -> Result<Path, AllocError>
-    ensures { IfOk result (λ p. p ≡ key.Text name.now ∷ []) }
+fn path_to(alloc: Global, key: &Key) -> Result<Path, AllocError>
+    ensures { IfOk result (λ p. p ≡ key.now ∷ []) }
 {
     let mut keys = Vec::new(alloc);
-    keys.push(Key::Text(name.copy(alloc)?))?;
+    keys.push(key.copy(alloc)?)?;
     Ok(Path::from_vec(keys))
 }
 
@@ -170,10 +181,4 @@ fn path_weight(path: &Path) -> u64
         total = capped(total, key_weight(step));
     }
     total
-}
-
-fn capped(a: u64, b: u64) -> u64
-    ensures { result ≡ min (a + b) (2 ^ 63) }
-{
-    a.saturating_add(b).min(1 << 63)
 }

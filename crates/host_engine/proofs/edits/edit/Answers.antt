@@ -1,25 +1,31 @@
 use Rattle.std.proofs.Common.{◌≡◌, ◌∷◌, [], false}
 use Rattle.std.specs.Prelude.{Some, IsTrue}
-use Rattle.value_model.specs.declared.key.Key.TheVariants as key
+use Rattle.value_model.specs.Search.{left_true, right_true}
 use Rattle.host_machine.specs.Flat.{is_flat_path, is_flat_value}
+use Rattle.host_engine.specs.Drafts.{root_in}
 use Rattle.host_engine.specs.Edits.{is_number}
 use Rattle.host_engine.specs.Kept.{number_of}
-use Rattle.value_model.specs.Search.{right_true}
-use Rattle.host_engine.proofs.EditLaws.{edits_set, edits_unset}
+use Rattle.host_engine.proofs.EditLaws.{edits_set, edits_unset, text_step}
 use Rattle.host_engine.proofs.edits.edit.Goals as goal
 
-pub returns-in-Some-number_in : goal.returns-in-Some-number_in
-returns-in-Some-number_in c =
+pub returns-in-Some-number_in-clause-edits : goal.returns-in-Some-number_in-clause-edits
+returns-in-Some-number_in-clause-edits c =
+    let ts = c.args.store.now in
     let p = c.args.patch.now in
-    let name : p.path ≡ key.Text c.in-Some.name.now ∷ [] = c.in-Some.ensures in
-    let number : p.value ≡ Some (number_of c.in-Some-number_in.number) = c.in-Some-number_in.ensures in
-    let flat : IsTrue (is_flat_value p.op p.value) = right_true (is_flat_path p.path) (is_flat_value p.op p.value) c.requires in
-    rw (name, number) (edits_set p.op c.in-Some-number_in.number c.in-Some.name.now c.args.table.now c.set_entry.new.table c.set_entry.result (rw number at flat) c.set_entry.ensures)
+    let k = c.in-Some.key.now in
+    let n = c.in-Some-number_in.number in
+    let step : p.path ≡ k ∷ [] = c.in-Some.ensures in
+    let number : p.value ≡ Some (number_of n) = c.in-Some-number_in.ensures in
+    let path : IsTrue (is_flat_path p.path) = left_true (is_flat_path p.path) (is_flat_value p.op p.value) c.requires.patch in
+    let flat : IsTrue (is_flat_value p.op p.value) = right_true (is_flat_path p.path) (is_flat_value p.op p.value) c.requires.patch in
+    rw (step, number) (edits_set p.op n k (root_in ts c.args.scope.now) (root_in ts c.set_entry.new.scope) c.set_entry.result (text_step k (rw step at path)) (rw number at flat) c.set_entry.ensures.edits)
 
-pub returns-in-None : goal.returns-in-None
-returns-in-None c =
+pub returns-in-None-clause-edits : goal.returns-in-None-clause-edits
+returns-in-None-clause-edits c =
+    let ts = c.args.store.now in
     let p = c.args.patch.now in
-    let name : p.path ≡ key.Text c.in-Some.name.now ∷ [] = c.in-Some.ensures in
+    let k = c.in-Some.key.now in
+    let step : p.path ≡ k ∷ [] = c.in-Some.ensures in
     let nothing : is_number p.value ≡ false = c.in-None.ensures in
-    let flat : IsTrue (is_flat_value p.op p.value) = right_true (is_flat_path p.path) (is_flat_value p.op p.value) c.requires in
-    rw name (edits_unset p.op p.value c.in-Some.name.now c.args.table.now c.unset_entry.new.table c.unset_entry.result flat nothing c.unset_entry.ensures)
+    let flat : IsTrue (is_flat_value p.op p.value) = right_true (is_flat_path p.path) (is_flat_value p.op p.value) c.requires.patch in
+    rw step (edits_unset p.op p.value k (root_in ts c.args.scope.now) (root_in ts c.unset_entry.new.scope) c.unset_entry.result flat nothing c.unset_entry.ensures.edits)

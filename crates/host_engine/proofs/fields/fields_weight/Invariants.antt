@@ -2,7 +2,7 @@ use Rattle.std.proofs.Common.{◌≡◌, ◌≤◌, ◌^◌, ◌+◌, min, map, 
 use Rattle.value_model.specs.Plain.{entries, weights}
 use Rattle.value_model.specs.declared.words.Kind.TheVariants as kind
 use Rattle.host_engine.specs.Kept.{of_field}
-use Rattle.host_engine.proofs.table.fields_weight.Given as goal
+use Rattle.host_engine.proofs.fields.fields_weight.Given as goal
 
 abbrev pub invariant-loop-f : goal.invariant-loop-f
 invariant-loop-f l = record {

@@ -1,7 +1,7 @@
 use Rattle.std.proofs.Common.{◌≡◌, ◌∙◌, ap, refl, Less, Equal, Greater, Ordering}
 use Rattle.std.specs.Prelude.{not}
 use Rattle.std.specs.Ordering.{is_eq, is_ne}
-use Rattle.host_engine.proofs.table.is_other.Goals as goal
+use Rattle.host_engine.proofs.pairs.is_other.Goals as goal
 
 told_apart : (o : Ordering) → is_ne o ≡ not (is_eq o)
 told_apart Less = refl
