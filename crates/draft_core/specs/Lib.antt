@@ -1,4 +1,5 @@
 pub mod Changed
+pub mod Ended
 pub mod Fresh
 pub mod Keeping
 pub mod Kept

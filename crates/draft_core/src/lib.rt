@@ -4,6 +4,7 @@
 //! `Stands`). Each call answers what the table of operations says of that heap, and leaves the heap that the table says.
 #![tactic(auto)]
 
+mod ending;
 mod fresh;
 mod lists;
 mod mint;
@@ -16,5 +17,5 @@ mod writes;
 pub use draft_slots::Peek;
 pub use mint::{ScopeMint, ScopeTicket};
 pub use node_store::{Cell, Kind, NodeId, Store};
-pub use run_heap::{DraftFault, ObjRef, Rv};
+pub use run_heap::{Content, DraftFault, ObjRef, Rv, Table};
 pub use scope::Scope;

@@ -16,13 +16,12 @@ use Rattle.value_model.specs.Search.{left_true, right_true}
 use Rattle.numbered.specs.Tree.{Tree, prim, node, branch, own_weight, child_weight, child_weights}
 use Rattle.numbered.specs.Loading.{places, places_in, numbered, numbered_in}
 use Rattle.numbered.specs.Store.{tree_at}
-use Rattle.node_store.specs.Nodes.{is_node, ascending, cell_fits, cells_fit, CellsBelow, branches, built}
+use Rattle.node_store.specs.Nodes.{is_node, ascending, cell_fits, cells_fit, CellBelow, CellsBelow, cell_tree, branches, built}
 use Rattle.node_store.specs.declared.node.Cell.{Cell}
 use Rattle.host_machine.specs.Flat.{is_integer, is_text_key, is_field_key, is_flat_table}
 use Rattle.host_machine.proofs.NumberLaws.{flat_places}
-use Rattle.host_engine.specs.Kept.{of_field, state_of}
-use Rattle.host_engine.specs.Frozen.{frozen, key_of, cell_of}
-use Rattle.host_engine.specs.declared.fields.Field.{Field}
+use Rattle.host_engine.specs.Kept.{state_of}
+use Rattle.host_engine.specs.Frozen.{frozen, key_of, cell_of, leaf_cell}
 
 abbrev pub Flat : TableOf → Type 0
 Flat es = IsTrue (is_flat_table es)
@@ -37,26 +36,37 @@ pub flat_tail : (e : Key × Plain) (es : TableOf) → Flat (e ∷ es) → Flat e
 flat_tail e es h = right_true (is_field_key e.0 && is_integer e.1) (is_flat_table es) h
 
 -- ---- what the node stands for
-fields_numbered : (ts : List Tree) (next : ℕ) (fs : List Field) → branches ts (zip (map key_of fs) (map cell_of fs)) ≡ numbered_in next (entries (map of_field fs))
-fields_numbered ts next [] = refl
-fields_numbered ts next (f ∷ fs) = ap (branch f.key.now (prim (key.Int f.number))) (fields_numbered ts (next + 0) fs)
+leaf_tree : (ts : List Tree) (next : ℕ) (v : Plain) → IsTrue (is_integer v) → cell_tree ts (leaf_cell v) ≡ numbered next v
+leaf_tree ts next (plain_value.prim k) h = refl
+leaf_tree ts next (plain_value.node kind es) h = absurd (cc)
 
-pub built_frozen : (ts : List Tree) (fs : List Field) → Flat (map of_field fs) → built ts kind.Obj (map key_of fs) (map cell_of fs) ≡ frozen ts (map of_field fs)
-built_frozen ts fs h =
-    let id : length ts + 1 ≡ length ts + 1 + places_in (entries (map of_field fs)) = omega (arith, flat_places (map of_field fs) h) in
-    λ i. node (id i) kind.Obj (fields_numbered ts (length ts + 1) fs i)
+entries_numbered : (ts : List Tree) (next : ℕ) (es : TableOf) → Flat es → branches ts (zip (map key_of es) (map cell_of es)) ≡ numbered_in next (entries es)
+entries_numbered ts next [] h = refl
+entries_numbered ts next (e ∷ es) h =
+    let leaf = leaf_tree ts next e.1 (integer_head e es h) in
+    let rest = entries_numbered ts (next + places e.1) es (flat_tail e es h) in
+    λ i. branch e.0 (leaf i) (rest i)
 
-pub cells_below : (ts : List Tree) (fs : List Field) → CellsBelow ts (map cell_of fs)
+pub built_frozen : (ts : List Tree) (es : TableOf) → Flat es → built ts kind.Obj (map key_of es) (map cell_of es) ≡ frozen ts es
+built_frozen ts es h =
+    let id : length ts + 1 ≡ length ts + 1 + places_in (entries es) = omega (arith, flat_places es h) in
+    λ i. node (id i) kind.Obj (entries_numbered ts (length ts + 1) es h i)
+
+leaf_below : (ts : List Tree) (v : Plain) → CellBelow ts (leaf_cell v)
+leaf_below ts (plain_value.prim k) = tt
+leaf_below ts (plain_value.node kind es) = tt
+
+pub cells_below : (ts : List Tree) (es : TableOf) → CellsBelow ts (map cell_of es)
 cells_below ts [] = tt
-cells_below ts (f ∷ fs) = (tt, cells_below ts fs)
+cells_below ts (e ∷ es) = (leaf_below ts e.1, cells_below ts es)
 
-below_keys : (k : Key) (fs : List Field) → below_all key_cmp k (map (λ (j : Key). let e : Key × Key = (j, j) in e) (map key_of fs)) ≡ below_all key_cmp k (map of_field fs)
+below_keys : (k : Key) (es : TableOf) → below_all key_cmp k (map (λ (j : Key). let e : Key × Key = (j, j) in e) (map key_of es)) ≡ below_all key_cmp k es
 below_keys k [] = refl
-below_keys k (f ∷ fs) = ap (λ (b : Bool). is_lt (key_cmp k f.key.now) && b) (below_keys k fs)
+below_keys k (e ∷ es) = ap (λ (b : Bool). is_lt (key_cmp k e.0) && b) (below_keys k es)
 
-sorted_keys : (fs : List Field) → ascending (map key_of fs) ≡ is_sorted key_cmp (map of_field fs)
+sorted_keys : (es : TableOf) → ascending (map key_of es) ≡ is_sorted key_cmp es
 sorted_keys [] = refl
-sorted_keys (f ∷ fs) = let a = below_keys f.key.now fs in let b = sorted_keys fs in λ i. a i && b i
+sorted_keys (e ∷ es) = let a = below_keys e.0 es in let b = sorted_keys es in λ i. a i && b i
 
 text_fits : (k : Key) (c : Cell) → IsTrue (is_field_key k) → cell_fits kind.Obj k c ≡ true
 text_fits (key.Text s) c h = refl
@@ -64,12 +74,12 @@ text_fits key.Null c h = absurd (cc)
 text_fits (key.Bool b) c h = absurd (cc)
 text_fits (key.Int n) c h = absurd (cc)
 
-fields_fit : (fs : List Field) → Flat (map of_field fs) → cells_fit kind.Obj (map key_of fs) (map cell_of fs) ≡ true
-fields_fit [] h = refl
-fields_fit (f ∷ fs) h = rw (text_fits f.key.now (cell_of f) (key_head (of_field f) (map of_field fs) h)) (fields_fit fs (flat_tail (of_field f) (map of_field fs) h))
+entries_fit : (es : TableOf) → Flat es → cells_fit kind.Obj (map key_of es) (map cell_of es) ≡ true
+entries_fit [] h = refl
+entries_fit (e ∷ es) h = rw (text_fits e.0 (cell_of e) (key_head e es h)) (entries_fit es (flat_tail e es h))
 
-pub fields_node : (fs : List Field) → IsTrue (is_sorted key_cmp (map of_field fs)) → Flat (map of_field fs) → IsTrue (is_node kind.Obj (map key_of fs) (map cell_of fs))
-fields_node fs h f = rw (sorted_keys fs, h) (fields_fit fs f)
+pub entries_node : (es : TableOf) → IsTrue (is_sorted key_cmp es) → Flat es → IsTrue (is_node kind.Obj (map key_of es) (map cell_of es))
+entries_node es h f = rw (sorted_keys es, h) (entries_fit es f)
 
 -- ---- it is accepted
 no_depth : (v : Plain) → IsTrue (is_integer v) → depth v ≡ 0
@@ -88,9 +98,13 @@ no_reserved : (v : Plain) → IsTrue (is_integer v) → has_reserved_key v ≡ f
 no_reserved (plain_value.prim k) h = refl
 no_reserved (plain_value.node kind es) h = absurd (cc)
 
-not_true : (b : Bool) → not b ≡ true → b ≡ false
+pub not_true : (b : Bool) → not b ≡ true → b ≡ false
 not_true true h = absurd (cc)
 not_true false h = refl
+
+pub not_false : (b : Bool) → not b ≡ false → b ≡ true
+not_false true h = refl
+not_false false h = absurd (cc)
 
 short_key : (k : Key) → IsTrue (is_field_key k) → is_long_key k ≡ false
 short_key k h = not_true (is_long_key k) (right_true (is_text_key k && not (is_reserved_key k)) (not (is_long_key k)) h)

@@ -1,5 +1,5 @@
 -- The machine of a host that keeps a flat state in a store.
-use Rattle.std.proofs.Common.{◌≡◌, ℕ, ◌+◌, ◌≤◌, ◌<◌, ◌^◌, List, [], ◌∷◌, ◌++◌, length, min, ap, refl, sym, ◌∙◌, subst, arith, Bool, true, false, length-append, ne_eqb}
+use Rattle.std.proofs.Common.{◌≡◌, ℕ, ◌+◌, ◌≤◌, ◌<◌, ◌^◌, List, [], ◌∷◌, ◌++◌, length, min, ap, refl, sym, ◌∙◌, arith, Bool, true, false, length-append, ne_eqb}
 use Rattle.std.specs.Prelude.{IsTrue, ◌||◌, ◌==◌, nat_lt, Option, Some, None, option_map, Ok, Err}
 use Rattle.value_model.specs.declared.words.Kind.TheVariants as kind
 use Rattle.value_model.specs.Limits.{state_limit}
@@ -23,14 +23,9 @@ use Rattle.host_machine.specs.Machine.{is_full as is_full_of, is_heavy as is_hea
 use Rattle.host_machine.proofs.NumberLaws.{flat_places, flat_number, flat_used}
 use Rattle.host_machine.proofs.StepLaws.{step_judged, step_refused}
 use Rattle.run_heap.specs.declared.content.Content.{Content}
-use Rattle.run_heap.specs.declared.value.Rv.{Rv}
-use Rattle.run_heap.specs.Heap.{shown}
-use Rattle.run_heap.specs.Operations.{is_marked, marked, root_draft}
-use Rattle.run_heap.specs.Sound.{IsContainer}
-use Rattle.draft_core.specs.declared.scope.Scope.{Scope}
-use Rattle.draft_core.specs.Seen.{heap, Stands}
+use Rattle.run_heap.specs.Operations.{is_marked}
 use Rattle.host_engine.specs.Applied.{IsAppliedChange, IsUnchanged, IsRefused, Applies, edit_stop, change_stop}
-use Rattle.host_engine.specs.Drafts.{IsFlatObject, entries_in, state_in, root_in}
+use Rattle.host_engine.specs.Drafts.{IsFlatObject, entries_in, state_in}
 use Rattle.host_engine.specs.Edits.{EditsAll}
 use Rattle.host_engine.specs.Frozen.{frozen, between_tables, IsKeptChange, IsBigChange, IsFullChange, IsHeavyChange, Changes}
 use Rattle.host_engine.specs.Kept.{IsFlatState, IsKept, machine_of, state_of, table_at}
@@ -39,7 +34,6 @@ use Rattle.host_engine.specs.declared.change.ChangeStop.{ChangeStop}
 use Rattle.host_engine.specs.declared.change.ChangeStop.TheVariants as change
 use Rattle.host_engine.specs.declared.edits.EditStop.{EditStop}
 use Rattle.host_engine.specs.declared.edits.EditStop.TheVariants as edit
-use Rattle.host_engine.proofs.DraftLaws.{root_object}
 use Rattle.host_engine.proofs.FieldLaws.{object_flat}
 use Rattle.host_engine.proofs.FlatLaws.{Flat, integer_head, flat_tail, at_most, frozen_weight, last_state}
 
@@ -262,12 +256,6 @@ draft_applied ts root ps old new wrote s f e m flat edits w = record {
   applied = ap (λ (es : TableOf). applied_from 0 ps (state_of es)) (sym e) ∙ edits.0;
   written = ap (λ (es : TableOf). writes ps (state_of es)) (sym e) ∙ sym (edits.1 ∙ ap (λ (b : Bool). b || writes ps (state_in old)) m) ∙ w;
 }
-
--- the mark that a call answers is that of the root draft
-pub mark_answered : (ts : List Tree) (s : Scope) (v : Rv) (b : Bool) → Stands ts s → v ≡ root_draft (heap ts s) → (IsContainer (heap ts s) v → b ≡ marked (heap ts s) v) → is_marked (root_in ts s) ≡ b
-mark_answered ts s v b st is said =
-    let h = heap ts s in
-    sym (said (subst (IsContainer h) (sym is) (root_object ts s st)) ∙ ap (λ (x : Rv). is_marked (shown h x)) is)
 
 -- ---- the number at a path
 pub shown_some : (m : Machine) (o : Option Tree) (n : Option ℕ) → Some n ≡ option_map number_if o → (let a : Machine × Reply = (m, reply.Node n) in a ≡ node_shown m o)

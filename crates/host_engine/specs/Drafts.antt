@@ -13,8 +13,6 @@ use Rattle.run_heap.specs.declared.value.Rv.TheVariants.{Prim}
 use Rattle.run_heap.specs.declared.content.Content.{Content}
 use Rattle.run_heap.specs.Heap.{Heap, shown}
 use Rattle.run_heap.specs.Operations.{Rows, rows_of, root_draft}
-use Rattle.draft_slots.specs.declared.look.Peek.{Peek}
-use Rattle.draft_slots.specs.declared.look.Peek.TheVariants.{Read, Untouched}
 use Rattle.draft_core.specs.declared.scope.Scope.{Scope}
 use Rattle.draft_core.specs.Seen.{heap, Stands}
 use Rattle.host_engine.specs.Kept.{state_of}
@@ -27,10 +25,6 @@ plain_of _ = prim Null
 abbrev pub plain_cell : Cell → Plain
 plain_cell (cell.Prim k) = prim k
 plain_cell (cell.Node id) = prim Null
-
-abbrev pub peeked : Peek → Plain
-peeked (Read v) = plain_of v.now
-peeked (Untouched c) = plain_cell c.now
 
 abbrev pub plain_row : Key × Rv → Key × Plain
 plain_row e = (e.0, plain_of e.1)

@@ -1,8 +1,8 @@
 -- A flat root as a node of the store, and what keeping a change of it leaves.
 use Rattle.std.specs.Prelude.{◌≡◌, ◌+◌, ◌≤◌, ◌^◌, nat_lt, List, [], ◌∷◌, ◌++◌, length, true, false, Result, Ok, Err}
 use Rattle.value_model.specs.declared.key.Key.{Key}
-use Rattle.value_model.specs.declared.key.Key.TheVariants.{Int}
-use Rattle.value_model.specs.Plain.{Table as TableOf, weight}
+use Rattle.value_model.specs.declared.key.Key.TheVariants.{Null}
+use Rattle.value_model.specs.Plain.{Plain, Table as TableOf, prim, node, weight}
 use Rattle.numbered.specs.Tree.{Tree}
 use Rattle.numbered.specs.Loading.{numbered}
 use Rattle.numbered.specs.Store.{is_full}
@@ -18,13 +18,17 @@ use Rattle.host_engine.specs.declared.change.Change.{Change}
 use Rattle.host_engine.specs.declared.change.ChangeStop.{ChangeStop}
 use Rattle.host_engine.specs.declared.change.ChangeStop.TheVariants as stop
 use Rattle.host_engine.specs.declared.change.Plan.{Plan}
-use Rattle.host_engine.specs.declared.fields.Field.{Field}
 
-abbrev pub key_of : Field → Key
-key_of f = f.key.now
+abbrev pub key_of : Key × Plain → Key
+key_of e = e.0
 
-abbrev pub cell_of : Field → Cell
-cell_of f = cell.Prim (Int f.number)
+-- a primitive as a cell
+abbrev pub leaf_cell : Plain → Cell
+leaf_cell (prim k) = cell.Prim k
+leaf_cell (node kind es) = cell.Prim Null
+
+abbrev pub cell_of : Key × Plain → Cell
+cell_of e = leaf_cell e.1
 
 -- the object of a table under the next number
 abbrev pub frozen : List Tree → TableOf → Tree
@@ -32,6 +36,18 @@ frozen ts es = numbered (length ts + 1) (state_of es)
 
 abbrev pub between_tables : TableOf → TableOf → Pair
 between_tables ds es = record { forward = differences ds es; inverse = differences es ds }
+
+-- its patches
+pub record IsPair (old new : TableOf) (p : Pair) : Type 0 where
+  pub small : weight (state_of new) ≤ 2 ^ 20
+  pub pair : p ≡ between_tables old new
+
+abbrev pub Pairs : TableOf → TableOf → Result Pair ChangeStop → Type 0
+Pairs old new (Ok p) = IsPair old new p
+Pairs old new (Err stop.TooBig) = nat_lt (2 ^ 20) (weight (state_of new)) ≡ true
+Pairs old new (Err stop.Memory) = Unit {0}
+Pairs old new (Err stop.Full) = ⊥
+Pairs old new (Err stop.PatchesTooBig) = ⊥
 
 -- a change that is to be kept
 pub record IsPlan (old new : TableOf) (p : Plan) : Type 0 where

@@ -47,10 +47,13 @@ pub fn apply(
         Ok(()) => {}
         Err(stop) => return Err(fault_of(stop)),
     }
-    if !scope.written(&scope.root()) {
+    let Some(content) = scope.into_root() else {
+        return Ok(None);
+    };
+    if !content.written {
         return Ok(None);
     }
-    match keep(store, alloc, root, &scope) {
+    match keep(store, alloc, root, content.table) {
         Ok(change) => Ok(Some(change)),
         Err(stop) => Err(limit_of(stop)),
     }

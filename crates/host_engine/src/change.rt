@@ -5,15 +5,15 @@ ghost use Rattle.value_model.specs.Order.{key_cmp};
 ghost use Rattle.numbered.specs.Tree.{Tree};
 ghost use Rattle.node_store.specs.Added.{state_of as node_state};
 ghost use Rattle.node_store.specs.Nodes.{CellsBelow};
-ghost use Rattle.host_machine.specs.Flat.{is_flat_table};
+ghost use Rattle.host_machine.specs.Flat.{is_integer, is_flat_table};
 ghost use Rattle.host_machine.specs.Machine.{is_heavy as is_heavy_of};
-ghost use Rattle.host_engine.specs.Drafts.{IsFlatScope, entries_in, root_in};
+ghost use Rattle.host_engine.specs.Drafts.{plain_of, plain_rows};
 ghost use Rattle.host_engine.specs.Kept.{IsFlatState, of_field, table_at};
-ghost use Rattle.host_engine.specs.Frozen.{frozen, key_of, cell_of, Changes, Plans, between_tables};
+ghost use Rattle.host_engine.specs.Frozen.{frozen, key_of, cell_of, leaf_cell, Changes, Pairs, Plans, between_tables};
 
-use crate::fields::{Field, fields_of, object_weight};
+use crate::fields::{Field, fields_at, fields_of, object_weight};
 use crate::pairs::{differences, patches_weight};
-use draft_core::{Rv, Scope};
+use draft_core::{Rv, Table};
 use node_store::{Cell, Cells, Keys, Node, NodeId, Store, StoreFault};
 use plain_values::{Key, Kind, Pair};
 use std::alloc::{AllocError, Global};
@@ -60,20 +60,22 @@ pub struct Plan {
     pub pair: Pair,
 }
 
-/// Keeps the state of the root draft under the next number. Where that is refused, or memory runs out, the store is as before.
+/// Keeps the state with this table, that of the root draft, under the next number. Where that is refused, or memory runs out, the
+/// store is as before.
 pub fn keep(
     store: &mut Store,
     alloc: Global,
     root: NodeId,
-    scope: &Scope,
+    table: Table,
 ) -> Result<Change, ChangeStop>
     requires state { IsFlatState store.old root }
-    requires scope { IsFlatScope store.old scope.now }
-    ensures change { Changes store.old store.new (table_at store.old root) (entries_in (root_in store.old scope.now)) result }
+    requires sorted { IsTrue (is_sorted key_cmp (plain_rows table)) }
+    requires flat { IsTrue (is_flat_table (plain_rows table)) }
+    ensures change { Changes store.old store.new (table_at store.old root) (plain_rows table) result }
     ensures few { length store.old < 2 ^ 21 }
 {
     let _few = store.len();
-    let Plan { node, pair } = plan_change(store, alloc, root, scope)?;
+    let Plan { node, pair } = plan_change(store, alloc, root, table)?;
     let mark = store.mark();
     let root = match store.add(alloc, node) {
         Ok(root) => root,
@@ -87,37 +89,48 @@ pub fn keep(
     Ok(Change { root, pair })
 }
 
-/// The node of the root draft, and the patches to it from the state under the number and back.
-fn plan_change(
+/// The node of the table, which takes its keys over, and the patches to it from the state under the number and back.
+fn plan_change(store: &Store, alloc: Global, root: NodeId, table: Table) -> Result<Plan, ChangeStop>
+    requires state { IsFlatState store.now root }
+    requires sorted { IsTrue (is_sorted key_cmp (plain_rows table)) }
+    requires flat { IsTrue (is_flat_table (plain_rows table)) }
+    ensures { Plans (table_at store.now root) (plain_rows table) result }
+{
+    let Table { entries } = table;
+    let pair = pair_to(store, alloc, root, &entries)?;
+    let node = node_of(alloc, entries)?;
+    Ok(Plan { node, pair })
+}
+
+/// The patches from the state under the number to the one with these entries and back, where that isn't too heavy.
+fn pair_to(
     store: &Store,
     alloc: Global,
     root: NodeId,
-    scope: &Scope,
-) -> Result<Plan, ChangeStop>
+    rows: &[(Key, Rv)],
+) -> Result<Pair, ChangeStop>
     requires state { IsFlatState store.now root }
-    requires scope { IsFlatScope store.now scope.now }
-    ensures { Plans (table_at store.now root) (entries_in (root_in store.now scope.now)) result }
+    requires sorted { IsTrue (is_sorted key_cmp (plain_rows rows.now)) }
+    requires flat { IsTrue (is_flat_table (plain_rows rows.now)) }
+    ensures { Pairs (table_at store.now root) (plain_rows rows.now) result }
 {
-    let old = fields_of(alloc, store, scope, &Rv::Frozen(root))?;
-    let new = fields_of(alloc, store, scope, &scope.root())?;
+    let _in_order = store.len();
+    let new = fields_of(alloc, rows)?;
     if object_weight(&new) > MAX_WEIGHT {
         return Err(ChangeStop::TooBig);
     }
-    Ok(Plan {
-        node: node_of(alloc, &new)?,
-        pair: pair_of(alloc, &old, &new)?,
-    })
+    let old = fields_at(alloc, store, root)?;
+    Ok(pair_of(alloc, &old, &new)?)
 }
 
-/// The object of these entries as a node.
-fn node_of(alloc: Global, fields: &[Field]) -> Result<Node, AllocError>
-    requires sorted { IsTrue (is_sorted key_cmp (map of_field fields.now)) }
-    requires flat { IsTrue (is_flat_table (map of_field fields.now)) }
-    ensures state { IfOk result (λ n. (ts : List Tree) → node_state ts n ≡ frozen ts (map of_field fields.now)) }
+/// The object with these entries as a node.
+fn node_of(alloc: Global, rows: Vec<(Key, Rv)>) -> Result<Node, AllocError>
+    requires sorted { IsTrue (is_sorted key_cmp (plain_rows rows.items)) }
+    requires flat { IsTrue (is_flat_table (plain_rows rows.items)) }
+    ensures state { IfOk result (λ n. (ts : List Tree) → node_state ts n ≡ frozen ts (plain_rows rows.items)) }
     ensures below { IfOk result (λ n. (ts : List Tree) → CellsBelow ts n.cells) }
 {
-    let keys = keys_of(alloc, fields)?;
-    let cells = cells_of(alloc, fields)?;
+    let Parts { keys, cells } = parts_of(alloc, rows)?;
     Ok(Node {
         kind: Kind::Obj,
         keys: Keys::from_vec(keys),
@@ -125,24 +138,36 @@ fn node_of(alloc: Global, fields: &[Field]) -> Result<Node, AllocError>
     })
 }
 
-fn keys_of(alloc: Global, fields: &[Field]) -> Result<Vec<Key>, AllocError>
-    ensures { IfOk result (λ w. w.items ≡ map key_of fields.now) }
-{
-    let mut out = Vec::with_capacity(alloc, fields.len())?;
-    for f in fields {
-        out.push(f.key.copy(alloc)?)?;
-    }
-    Ok(out)
+/// The keys and the cells of a node.
+#[derive(Drop)]
+struct Parts {
+    keys: Vec<Key>,
+    cells: Vec<Cell>,
 }
 
-fn cells_of(alloc: Global, fields: &[Field]) -> Result<Vec<Cell>, AllocError>
-    ensures { IfOk result (λ w. w.items ≡ map cell_of fields.now) }
+fn parts_of(alloc: Global, rows: Vec<(Key, Rv)>) -> Result<Parts, AllocError>
+    requires { IsTrue (is_flat_table (plain_rows rows.items)) }
+    ensures keys { IfOk result (λ p. p.keys.items ≡ map key_of (plain_rows rows.items)) }
+    ensures cells { IfOk result (λ p. p.cells.items ≡ map cell_of (plain_rows rows.items)) }
 {
-    let mut out = Vec::with_capacity(alloc, fields.len())?;
-    for f in fields {
-        out.push(Cell::Prim(Key::Int(f.number)))?;
+    let mut keys = Vec::with_capacity(alloc, rows.len())?;
+    let mut cells = Vec::with_capacity(alloc, rows.len())?;
+    for (key, value) in rows {
+        keys.push(key)?;
+        cells.push(cell_from(value))?;
     }
-    Ok(out)
+    Ok(Parts { keys, cells })
+}
+
+/// A primitive as a cell.
+fn cell_from(value: Rv) -> Cell
+    requires { IsTrue (is_integer (plain_of value)) }
+    ensures { result ≡ leaf_cell (plain_of value) }
+{
+    match value {
+        Rv::Prim(key) => Cell::Prim(key),
+        _ => unreachable!(),
+    }
 }
 
 /// The patches from the old entries to the new ones and back.

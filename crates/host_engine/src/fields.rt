@@ -1,16 +1,15 @@
-//! The entries of an object of integers, as a run's scope shows them.
-ghost use Rattle.std.specs.Prelude.{◌≡◌, ◌<◌, ◌≤◌, ◌+◌, ◌^◌, map, min, length, false, IfOk, MatchOption, Some, slice_get};
+//! The entries of a flat state and of a flat draft.
+ghost use Rattle.std.specs.Prelude.{◌≡◌, ◌<◌, ◌≤◌, ◌+◌, ◌^◌, map, min, length, false, IsTrue, IfOk, MatchOption, Some, slice_get};
 ghost use Rattle.value_model.specs.Plain.{prim, entries, weights, weight};
 ghost use Rattle.value_model.specs.declared.key.Key.TheVariants as key;
 ghost use Rattle.value_model.specs.declared.words.Kind.TheVariants as kind;
-ghost use Rattle.host_machine.specs.Flat.{is_integer};
-ghost use Rattle.run_heap.specs.Heap.{shown};
-ghost use Rattle.run_heap.specs.Sound.{IsContainer};
-ghost use Rattle.draft_core.specs.Seen.{heap, Stands};
-ghost use Rattle.host_engine.specs.Drafts.{IsFlatObject, entries_in, plain_of, plain_cell, peeked};
-ghost use Rattle.host_engine.specs.Kept.{of_field, number_of, state_of};
+ghost use Rattle.numbered.specs.Store.{tree_at};
+ghost use Rattle.node_store.specs.Nodes.{cells_of};
+ghost use Rattle.host_machine.specs.Flat.{is_integer, is_flat_table};
+ghost use Rattle.host_engine.specs.Drafts.{plain_of, plain_cell, plain_rows};
+ghost use Rattle.host_engine.specs.Kept.{IsFlatState, of_field, number_of, state_of, table_at};
 
-use draft_core::{Cell, Peek, Rv, Scope, Store};
+use draft_core::{Cell, NodeId, Rv, Store};
 use plain_values::{Key, Safe, key_weight};
 use std::alloc::{AllocError, Global};
 
@@ -21,48 +20,51 @@ pub struct Field<'a> {
     pub number: Safe,
 }
 
-/// The entries of an object of integers, in the order of their keys. No text is copied.
-pub fn fields_of<'a>(
+/// The entries of the flat state under a number, in the order of their keys. No text is copied.
+pub fn fields_at<'a>(
     alloc: Global,
     store: &'a Store,
-    scope: &'a Scope,
-    of: &Rv,
+    root: NodeId,
 ) -> Result<Vec<Field<'a>>, AllocError>
-    requires stands { Stands store.now scope.now }
-    requires container { IsContainer (heap store.now scope.now) of.now }
-    requires flat { IsFlatObject (shown (heap store.now scope.now) of.now) }
-    ensures { IfOk result (λ w. map of_field w.items ≡ entries_in (shown (heap store.now scope.now) of.now)) }
+    requires { IsFlatState store.now root }
+    ensures { IfOk result (λ w. map of_field w.items ≡ table_at store.now root) }
 {
-    let count = scope.count(store, of);
+    let count = store.count(root);
     let mut out = Vec::with_capacity(alloc, count)?;
     for i in 0..count {
-        out.push_reserved(field_at(store, scope, of, i));
+        out.push_reserved(field_at(store, root, i));
     }
     Ok(out)
 }
 
-fn field_at<'a>(store: &'a Store, scope: &'a Scope, of: &Rv, i: usize) -> Field<'a>
-    requires stands { Stands store.now scope.now }
-    requires container { IsContainer (heap store.now scope.now) of.now }
-    requires flat { IsFlatObject (shown (heap store.now scope.now) of.now) }
-    requires in_range { i < length (entries_in (shown (heap store.now scope.now) of.now)) }
-    ensures { slice_get (entries_in (shown (heap store.now scope.now) of.now)) i ≡ Some (of_field result) }
+fn field_at<'a>(store: &'a Store, root: NodeId, i: usize) -> Field<'a>
+    requires state { IsFlatState store.now root }
+    requires in_range { i < length (cells_of (tree_at store.now root)) }
+    ensures { slice_get (table_at store.now root) i ≡ Some (of_field result) }
 {
-    let key = scope.key_at(store, of, i);
-    let Some(number) = integer_in(&scope.peek(store, of, i)) else {
+    let key = store.key(root, i);
+    let Some(number) = integer_of_cell(store.cell(root, i)) else {
         unreachable!()
     };
     Field { key, number }
 }
 
-/// The integer that a kept value is.
-fn integer_in(value: &Peek) -> Option<Safe>
-    ensures { MatchOption result (is_integer (peeked value.now) ≡ false) (λ n. peeked value.now ≡ number_of n) }
+/// The entries of a flat draft, in the order of their keys. No text is copied.
+pub fn fields_of<'a>(alloc: Global, rows: &'a [(Key, Rv)]) -> Result<Vec<Field<'a>>, AllocError>
+    requires { IsTrue (is_flat_table (plain_rows rows.now)) }
+    ensures { IfOk result (λ w. map of_field w.items ≡ plain_rows rows.now) }
 {
-    match value {
-        Peek::Read(value) => integer_of_value(value),
-        Peek::Untouched(cell) => integer_of_cell(cell),
+    let mut out = Vec::with_capacity(alloc, rows.len())?;
+    for row in rows {
+        let Some(number) = integer_of_value(&row.1) else {
+            unreachable!()
+        };
+        out.push_reserved(Field {
+            key: &row.0,
+            number,
+        });
     }
+    Ok(out)
 }
 
 fn integer_of_value(value: &Rv) -> Option<Safe>

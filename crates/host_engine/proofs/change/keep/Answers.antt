@@ -2,9 +2,8 @@ use Rattle.std.proofs.Common.{◌∙◌, ap, ◌+◌, length}
 use Rattle.value_model.specs.Limits.{state_limit}
 use Rattle.numbered.specs.Laws.{plain_numbered}
 use Rattle.numbered.specs.Tree.{Tree, plain}
-use Rattle.host_engine.specs.Drafts.{entries_in, root_in}
+use Rattle.host_engine.specs.Drafts.{plain_rows}
 use Rattle.host_engine.specs.Kept.{state_of}
-use Rattle.host_engine.proofs.FieldLaws.{object_flat}
 use Rattle.host_engine.proofs.FlatLaws.{flat_accepted}
 use Rattle.host_engine.proofs.change.keep.Goals as goal
 
@@ -14,8 +13,7 @@ add-requires-clause-below c = c.in_ok-node.ensures.below c.args.store.now
 pub add-requires-clause-accepted : goal.add-requires-clause-accepted
 add-requires-clause-accepted c =
     let ts = c.args.store.now in
-    let o = root_in ts c.args.scope.now in
-    let es = entries_in o in
+    let es = plain_rows c.args.table in
     let plan = c.in_ok-node.ensures in
     ap (λ (t : Tree). state_limit (plain t)) (plan.node ts)
-    ∙ ap state_limit (plain_numbered (length ts + 1) (state_of es)) ∙ flat_accepted es (object_flat o c.requires.scope.flat) plan.small
+    ∙ ap state_limit (plain_numbered (length ts + 1) (state_of es)) ∙ flat_accepted es c.requires.flat plan.small
