@@ -2,6 +2,7 @@ ghost use Rattle.std.specs.Prelude.{◌≡◌, ◌<◌, ◌≤◌, ◌^◌, leng
 
 use std::alloc::{AllocError, Global};
 use std::marker::Model;
+use std::rc::Rc;
 
 /// Why there is no such text.
 #[derive(Debug, Drop)]
@@ -17,7 +18,8 @@ pub enum TextFault {
 /// A contract sees it as its bytes.
 #[derive(Debug, Drop)]
 pub struct Text {
-    text: String,
+    /// Shared by its copies.
+    text: Rc<String>,
 }
 
 impl Model for Text {
@@ -25,9 +27,9 @@ impl Model for Text {
 
     ghost Value = { List ℕ };
 
-    ghost view = { λ t. string_bytes t.text };
+    ghost view = { λ t. string_bytes t.text.value };
 
-    ghost invariant = { λ t. length (string_bytes t.text) ≤ 2 ^ 20 };
+    ghost invariant = { λ t. length (string_bytes t.text.value) ≤ 2 ^ 20 };
 }
 
 impl Text {
@@ -40,18 +42,19 @@ impl Text {
         if s.len() > 1048576 {
             return Err(TextFault::TooLong);
         }
-        match String::from_str(alloc, s) {
+        let text = String::from_str(alloc, s)?;
+        match Rc::new(alloc, text) {
             Ok(text) => Ok(Text { text }),
             Err(_) => Err(TextFault::Memory),
         }
     }
 
-    /// The same text.
-    pub fn copy(&self, alloc: Global) -> Result<Text, AllocError>
+    /// The same text, whose bytes are shared. The error is want of memory, as a share of an `Rc` may answer it.
+    pub fn copy(&self, _alloc: Global) -> Result<Text, AllocError>
         ensures { IfOk result (λ t. t ≡ self.now) }
     {
         Ok(Text {
-            text: String::from_str(alloc, self.text.as_str())?,
+            text: self.text.clone()?,
         })
     }
 
@@ -60,7 +63,7 @@ impl Text {
         ensures value { result.now ≡ self.now }
         ensures short { length self.now ≤ 2 ^ 20 }
     {
-        self.text.as_str()
+        self.text.as_ref().as_str()
     }
 }
 
