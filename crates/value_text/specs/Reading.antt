@@ -16,7 +16,9 @@ use Rattle.value_text.specs.Answers.{and_then, result_map}
 use Rattle.value_text.specs.declared.why.JsonWhy.{JsonWhy}
 use Rattle.value_text.specs.declared.why.JsonWhy.TheVariants as why
 
--- the JSON data that the bytes are, where they are a text at all
+-- The JSON data that the bytes are, where they are one text in UTF-8.
+-- `read` is serde_json's reading: of a name that is repeated the last value counts, what nests more than 127 levels is no text, nor
+-- is one with a number past a double's range (1e400).
 abbrev pub json_of : List ℕ → Option Data
 json_of bytes = if is_utf8 bytes then read bytes else None
 
