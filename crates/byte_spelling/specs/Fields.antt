@@ -10,6 +10,7 @@ use Rattle.std.proofs.lemmas.List.{take_at, drop_at, take-append-drop, length-ap
 use Rattle.std.proofs.lemmas.Nat.{be_bytes_4, be_bytes_8, from_be_bytes-to_be_bytes_4, from_be_bytes-to_be_bytes_8}
 use Rattle.value_model.specs.declared.key.Key.{Key}
 use Rattle.value_model.specs.declared.key.Key.TheVariants.{Null, Bool as BoolKey, Int, Text}
+use Rattle.value_model.specs.Search.{left_true}
 use Rattle.byte_spelling.specs.Numbers.{IsBytes}
 use Rattle.byte_spelling.specs.Spelling.{is_safe, is_text, is_word, text_bytes, key_bytes}
 use Rattle.byte_spelling.specs.Reading.{◌>>=◌, number_at, text_of, text_at, int_at, text_key_at, key_at}
@@ -121,18 +122,6 @@ text_takes bytes s rest fits e =
     let both = Takes-then bytes (to_be_bytes w32 n.0) n.1 (take n.0 n.1) (drop n.0 n.1) t.0 second in
     let whole : Takes bytes (text_bytes (take n.0 n.1)) (drop n.0 n.1) = subst (λ (k : ℕ). Takes bytes (to_be_bytes w32 k ++ take n.0 n.1) (drop n.0 n.1)) (sym len) both in
     subst (λ (q : List ℕ × List ℕ). Takes bytes (text_bytes q.0) q.1 × IsTrue (is_text q.0)) p.1 (whole, p.0)
-
-pub left_true : (a b : Bool) → (a && b) ≡ true → a ≡ true
-left_true true b h = refl
-left_true false b h = h
-
-pub right_true : (a b : Bool) → (a && b) ≡ true → b ≡ true
-right_true true b h = h
-right_true false b h = absurd cc
-
-pub both_true : (a b : Bool) → a ≡ true → b ≡ true → (a && b) ≡ true
-both_true true b p q = q
-both_true false b p q = p
 
 pub text_short : (s : List ℕ) → IsTrue (is_text s) → length s ≤ 2 ^ 20
 text_short s h = leb-true (length s) (2 ^ 20) (left_true _ _ h)

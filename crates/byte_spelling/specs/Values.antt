@@ -5,7 +5,7 @@ use Rattle.std.specs.Int.{w32, to_be_bytes}
 use Rattle.std.specs.Option.{is_none}
 use Rattle.std.specs.declared.cmp.Ordering.{Ordering}
 use Rattle.std.specs.Ordering.{is_eq}
-use Rattle.std.proofs.lemmas.Bool.{ltb-false, eqb-true}
+use Rattle.std.proofs.lemmas.Bool.{ltb-false, eqb-true, and_from}
 use Rattle.value_model.specs.declared.key.Key.{Key}
 use Rattle.value_model.specs.declared.key.Key.TheVariants.{Null, Bool as BoolKey, Int, Text}
 use Rattle.value_model.specs.declared.words.Kind.{Kind}
@@ -18,11 +18,12 @@ use Rattle.value_model.specs.Plain.{Plain, Entries, prim, node, none, entry, ent
 use Rattle.value_model.specs.Steps.{list_of_entries, entries-list_of}
 use Rattle.value_model.specs.Tables.{is_eq-same}
 use Rattle.value_model.specs.Well.{fits, all_fit, well, all_well}
+use Rattle.value_model.specs.Search.{left_true, right_true}
 use Rattle.byte_spelling.specs.Numbers.{IsBytes}
 use Rattle.byte_spelling.specs.Spelling.{is_word, all_words, all_words_in, text_bytes, key_bytes, kind_byte, place_bytes, value_bytes, entries_bytes, IsValue}
 use Rattle.byte_spelling.specs.Reading.{◌>>=◌, number_at, text_at, key_at, kind_at, entry_at, follows, entries_at, node_at, prim_at, prim_or_node, value_within, nested_at, value_at}
 use Rattle.byte_spelling.specs.Chains.{chain, ascends_from_chain, chain_from_ascends}
-use Rattle.byte_spelling.specs.Fields.{IsBytes-rest, bind_some, passed, passed_then, some_is, Takes, Takes-then, Takes-nothing, Takes-byte, wide32, number_takes, number_again, text_takes, text_again, key_takes, key_again, left_true, right_true, both_true}
+use Rattle.byte_spelling.specs.Fields.{IsBytes-rest, bind_some, passed, passed_then, some_is, Takes, Takes-then, Takes-nothing, Takes-byte, wide32, number_takes, number_again, text_takes, text_again, key_takes, key_again}
 
 -- ---- what each reader of values keeps
 
@@ -136,10 +137,10 @@ pub record AreEntries (kind : Kind) (n : ℕ) (before : Option Key) (es : List (
 -- one more in front
 AreEntries-cons : (kind : Kind) (n : ℕ) (before : Option Key) (e : Key × Plain) (es : List (Key × Plain)) → follows kind before e.0 ≡ true → IsEntry kind n e → AreEntries kind n (Some e.0) es → AreEntries kind n before (e ∷ es)
 AreEntries-cons kind n before e es f one more = record {
-  chained = both_true _ _ f more.chained;
-  fit = both_true _ _ one.fit more.fit;
-  words = both_true _ _ (both_true _ _ one.word one.value.words) more.words;
-  in_order = both_true _ _ one.value.in_order more.in_order;
+  chained = and_from _ _ f more.chained;
+  fit = and_from _ _ one.fit more.fit;
+  words = and_from _ _ (and_from _ _ one.word one.value.words) more.words;
+  in_order = and_from _ _ one.value.in_order more.in_order;
   levels = omega (arith, one.value.levels, more.levels);
 }
 
@@ -217,7 +218,7 @@ node_takes kind inner n exact bytes v rest fits h =
     subst (λ (q : Plain × List ℕ). Takes (kind_byte kind ∷ bytes) (value_bytes q.0) q.1 × IsNested (suc n) q.0) (some_is made (v, rest) b.2) (
       Takes-byte (kind_byte kind) bytes _ b.0.1 whole,
       record {
-        in_order = both_true _ _ (both_true _ _ ascends more.2.fit) more.2.in_order;
+        in_order = and_from _ _ (and_from _ _ ascends more.2.fit) more.2.in_order;
         words = more.2.words;
         levels = omega (arith, more.2.levels);
       },

@@ -7,6 +7,7 @@ use Rattle.std.specs.Option.{option_or}
 use Rattle.std.specs.Ordering.{nat_cmp}
 use Rattle.std.proofs.lemmas.Grind.{common_steps}
 use Rattle.value_model.specs.declared.key.Key.TheVariants as key
+use Rattle.value_model.specs.Search.{right_true}
 use Rattle.numbered.specs.Laws.{extends_take, containers_at, of_number, place_of}
 use Rattle.numbered.specs.Store.{IsNumber, IsStore, IsOf, tree_at}
 use Rattle.numbered.specs.Tree.{Tree, prim, node, containers, containers_in, branches_of, before, place}
@@ -30,7 +31,7 @@ use Rattle.draft_slots.specs.declared.look.Peek.{Peek}
 use Rattle.draft_slots.specs.declared.look.Peek.TheVariants.{Read, Untouched}
 use Rattle.run_heap.specs.declared.content.Content.{Content}
 use Rattle.run_heap.specs.Heap.{Heap, copied, opened, drafts, is_draft, is_foreign, shown, after, given_content}
-use Rattle.run_heap.specs.Laws.{right_true, get_none, no_place, place_within, opened_sound, shown_content, value_stored}
+use Rattle.run_heap.specs.Laws.{get_none, no_place, place_within, opened_sound, shown_content, value_stored}
 use Rattle.run_heap.specs.Operations as spec
 use Rattle.run_heap.specs.Places.{path_to}
 use Rattle.run_heap.specs.Sound.{IsSound, IsContent, IsContainer, IsObject, IsStored, RowsStored, Owned, ascends}

@@ -15,6 +15,7 @@ use Rattle.value_model.specs.Places.{ascends_at}
 use Rattle.value_model.specs.Plain as plain_value
 use Rattle.value_model.specs.Plain.{Plain, Entries, list_of}
 use Rattle.value_model.specs.Well.{well, all_fit, all_well}
+use Rattle.value_model.specs.Search.{left_true, right_true}
 use Rattle.numbered.specs.Laws.{length_post, containers_numbered, places_le_values, values_le_weight}
 use Rattle.numbered.specs.Loading.{places, places_in, numbered, numbered_in, post_order, post_orders}
 use Rattle.numbered.specs.Tree.{Tree, node}
@@ -22,7 +23,7 @@ use Rattle.run_heap.specs.declared.value.Rv.{Rv}
 use Rattle.run_heap.specs.declared.value.Rv.TheVariants.{Prim}
 use Rattle.run_heap.specs.declared.content.Content.{Content}
 use Rattle.run_heap.specs.Heap.{Heap}
-use Rattle.run_heap.specs.Laws.{AllContents, left_true, right_true, left_false, right_false, value_long, value_reserved}
+use Rattle.run_heap.specs.Laws.{AllContents, left_false, right_false, value_long, value_reserved}
 use Rattle.run_heap.specs.Operations.{named_value, named_table, literal, literals, with_plain, plain_value as value_of}
 use Rattle.draft_literals.specs.Making.{IsMade}
 use Rattle.draft_core.specs.declared.scope.Scope.{Scope}

@@ -5,26 +5,24 @@ use Rattle.std.specs.BTreeMap.{get, is_at}
 use Rattle.std.specs.List.{list_any, All}
 use Rattle.std.specs.Map.{lookup}
 use Rattle.std.specs.Ordering.{nat_cmp, is_eq}
+use Rattle.std.proofs.lemmas.Bool.{or_right}
 use Rattle.value_model.specs.declared.words.Kind.TheVariants as kind
+use Rattle.value_model.specs.Search.{left_true, right_true}
 use Rattle.numbered.specs.Tree.{Tree}
 use Rattle.run_heap.specs.declared.content.Content.{Content}
 use Rattle.run_heap.specs.Heap.{drafts}
-use Rattle.run_heap.specs.Laws.{left_true, right_true}
 use Rattle.run_heap.specs.Operations.{any_below, any_written, is_marked}
+use Rattle.run_heap.specs.Laws.{left_false, right_false}
 use Rattle.draft_core.specs.declared.scope.Scope.{Scope}
 use Rattle.draft_core.specs.Changed.{apart}
 use Rattle.draft_core.specs.Kept.{drafts_are, marked_touched}
 use Rattle.draft_core.specs.Seen.{heap, Stands}
 
-or_true : (a b : Bool) → b ≡ true → (a || b) ≡ true
-or_true true b h = refl
-or_true false b h = h
-
 any_true : (k n : ℕ) (p : ℕ → Bool) → n < k → p n ≡ true → any_below k p ≡ true
 any_true zero n p l h = absurd (omega arith)
 any_true (suc k) n p l h = elim (k == n) as (λ b. (k == n) ≡ b → (p k || any_below k p) ≡ true) [
   | true ↦ λ q. let e : k ≡ n = grind (arith, q) in rw (ap p e ∙ h) refl
-  | false ↦ λ q. let less : n < k = grind (arith, q, l) in or_true (p k) (any_below k p) (any_true k n p less h)
+  | false ↦ λ q. let less : n < k = grind (arith, q, l) in or_right (p k) (any_below k p) (any_true k n p less h)
 ] refl
 
 any_false : (k : ℕ) (p : ℕ → Bool) → ((n : ℕ) → n < k → p n ≡ false) → any_below k p ≡ false
@@ -54,14 +52,6 @@ same_name n q h = elim (q == n) as (λ b. (q == n) ≡ b → n ≡ q) [
   | false ↦ λ p. let other : q ≢ n = grind (arith, p) in let no = apart n q other in absurd (cc)
 ] refl
 
-first_false : (a b : Bool) → (a || b) ≡ false → a ≡ false
-first_false true b h = h
-first_false false b h = refl
-
-rest_false : (a b : Bool) → (a || b) ≡ false → b ≡ false
-rest_false true b h = absurd (cc)
-rest_false false b h = h
-
 not_marked : (a b : Bool) → (a && b) ≡ false → a ≡ true → b ≡ false
 not_marked true b h e = h
 not_marked false b h e = absurd (cc)
@@ -74,8 +64,8 @@ found_plain k n (e ∷ es) c m l h = elim (is_eq (nat_cmp n e.0)) as (λ b. is_e
       let name = same_name n e.0 p in
       let yes : nat_lt e.0 k ≡ true = grind (arith, l, name) in
       let is : e.1 ≡ c = cc in
-      subst (λ (x : Content). x.written ≡ false) is (not_marked _ _ (first_false _ _ m) yes)
-  | false ↦ λ p q. found_plain k n es c (rest_false _ _ m) l q
+      subst (λ (x : Content). x.written ≡ false) is (not_marked _ _ (left_false _ _ m) yes)
+  | false ↦ λ p q. found_plain k n es c (right_false _ _ m) l q
 ] refl h
 
 module _ (ts : List Tree) (s : Scope) (st : Stands ts s) where

@@ -24,7 +24,8 @@ HasPlaces i es = before i es < before (i + 1) es
 abbrev pub IsStep : Tree → ℕ → Key → Type 0
 IsStep t i k = (j : Key) → slice_get (keys_in (branches_of t)) i ≡ Some j → k ≡ step (kind_of t) i j
 
-path_entry : (of : Kind) (at i m : ℕ) (es : Branches) (k : Key) (v : Tree) → slice_get (keys_in es) i ≡ Some k → slice_get (children es) i ≡ Some v → before i es ≤ m → m < before i es + containers v → path_in of at m es ≡ step of (at + i) k ∷ path_to (m - before i es) v
+-- the path of a place that lies in the i-th entry
+pub path_entry : (of : Kind) (at i m : ℕ) (es : Branches) (k : Key) (v : Tree) → slice_get (keys_in es) i ≡ Some k → slice_get (children es) i ≡ Some v → before i es ≤ m → m < before i es + containers v → path_in of at m es ≡ step of (at + i) k ∷ path_to (m - before i es) v
 path_entry of at i m none k v p q a b = absurd (cc)
 path_entry of at zero m (branch j w es) k v p q a b =
     let e : w ≡ v = cc in

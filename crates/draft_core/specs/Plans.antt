@@ -2,6 +2,7 @@
 use Rattle.std.proofs.Common.{◌≡◌, ◌≢◌, ℕ, ◌≤◌, List, [], ◌∷◌, length, refl, ap, sym, ◌∙◌, subst, arith, Bool, true, false, not}
 use Rattle.std.specs.Prelude.{ℤ, pos, negsuc, ◌||◌, ◌==◌, nat_lt, Option, Some, None, IsTrue, Result, Ok, Err, MatchResult}
 use Rattle.std.specs.FinMap.Entries.{put, is_sorted}
+use Rattle.std.proofs.lemmas.Bool.{or_right}
 use Rattle.value_model.specs.declared.key.Key.{Key}
 use Rattle.value_model.specs.declared.key.Key.TheVariants as key
 use Rattle.value_model.specs.declared.words.Kind.{Kind}
@@ -102,12 +103,8 @@ put_nothing k v h of p q s = put_said k v h of None p q s
 pub put_foreign : (k : Key) (v : Rv) (h : Heap) (of : Rv) → is_foreign h of ≡ true → put_at k v h of ≡ Err fault.Revoked
 put_foreign k v h of p = rw p refl
 
-or_true : (a : Bool) → (a || true) ≡ true
-or_true true = refl
-or_true false = refl
-
 pub put_foreign_value : (k : Key) (v : Rv) (h : Heap) (of : Rv) → is_foreign h v ≡ true → put_at k v h of ≡ Err fault.Revoked
-put_foreign_value k v h of p = rw (p, or_true (is_foreign h of)) refl
+put_foreign_value k v h of p = rw (p, or_right (is_foreign h of) true refl) refl
 
 -- ---- a plan may be made
 not_false : (b : Bool) → not b ≡ false → b ≡ true

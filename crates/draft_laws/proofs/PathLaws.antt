@@ -26,6 +26,7 @@ use Rattle.run_heap.specs.Operations.{frozen_at, original, slot_of, source, sour
 use Rattle.run_heap.specs.Places.{step, path_to, path_in, place_of}
 use Rattle.run_heap.specs.Sound.{IsSound, IsOpenedAs}
 use Rattle.run_heap.specs.Values.{same}
+use Rattle.draft_core.specs.Paths.{path_entry}
 use Rattle.draft_laws.specs.Walks.{IsNode, IsPathOfDraft, under, child, then_subtree, subtree_at}
 
 -- ---- the entry in which a place lies
@@ -127,9 +128,6 @@ same_index kind.Map es i j k l o p q e = one_index k es i j o.ascend p (q ∙ ap
 same_index kind.Set es i j k l o p q e = one_index k es i j o.ascend p (q ∙ ap Some (sym e))
 
 -- ---- the path of a place under a container
-path_entry : (of : Kind) (at i m : ℕ) (es : Branches) (k : Key) (v : Tree) → slice_get (keys_in es) i ≡ Some k → slice_get (children es) i ≡ Some v → before i es ≤ m → m < before i es + containers v → path_in of at m es ≡ step of (at + i) k ∷ path_to (m - before i es) v
-path_entry of at i m none k v p q a b = absurd (cc)
-path_entry of at zero m (branch j w es) k v p q a b =
     let e : w ≡ v = cc in
     let f : j ≡ k = cc in
     let yes : nat_lt m (containers w) ≡ true = grind (arith, b, ap containers e) in

@@ -32,7 +32,7 @@ use Rattle.run_heap.specs.declared.value.Rv.TheVariants.{Prim}
 use Rattle.run_heap.specs.Answers.{Does}
 use Rattle.run_heap.specs.Heap.{Heap, after, copied, given_value, given_table, given_content, is_foreign, opened, rewritten, shown, update}
 use Rattle.run_heap.specs.Operations.{Rows, is_frozen, is_marked, no_answer, put_at, remove_at, root_draft, then_write, unless, without}
-use Rattle.run_heap.specs.Sound.{IsObject, Grows}
+use Rattle.run_heap.specs.Sound.{IsObject}
 use Rattle.run_heap.specs.Values.{same, same_tables}
 use Rattle.draft_core.specs.declared.scope.Scope.{Scope}
 use Rattle.draft_core.specs.Kept.{container_ours, root_inside}
@@ -121,7 +121,6 @@ begun_root ts s scope root e f = ap root_of e ∙ root_copied scope (tree_at ts 
 pub begun_flat : (ts : List Tree) (s : Scope) (scope root : ℕ) → Stands ts s → heap ts s ≡ opened scope ts root → IsTrue (is_flat (plain (tree_at ts root))) → IsFlatScope ts s
 begun_flat ts s scope root st e f = record {
   stands = st;
-  states = ap (λ (h : Heap). h.states) e;
   flat = subst IsFlatObject (sym (begun_root ts s scope root e f)) (flat_content (given.From (record { scope = scope; slot = 1 })) (tree_at ts root) f);
 }
 
@@ -271,6 +270,3 @@ unset_does ts s t (key.Text x) r f w d =
 unset_does ts s t key.Null r f w d = absurd (cc)
 unset_does ts s t (key.Bool b) r f w d = absurd (cc)
 unset_does ts s t (key.Int i) r f w d = absurd (cc)
-
-pub flat_grown : (ts : List Tree) (s t : Scope) → IsFlatScope ts s → Stands ts t → Grows (heap ts s) (heap ts t) → IsFlatObject (root_in ts t) → IsFlatScope ts t
-flat_grown ts s t f st g new = record { stands = st; states = g.states ∙ f.states; flat = new }

@@ -51,8 +51,7 @@ root_of h = shown h (root_draft h)
 abbrev pub root_in : List Tree → Scope → Option Content
 root_in ts s = root_of (heap ts s)
 
--- a scope over the store at its beginning, whose root draft is an object of integers
+-- a scope over the store, whose root draft is an object of integers
 pub record IsFlatScope (ts : List Tree) (s : Scope) : Type 0 where
   pub stands : Stands ts s
-  pub states : (heap ts s).states ≡ ts
   pub flat : IsFlatObject (root_in ts s)

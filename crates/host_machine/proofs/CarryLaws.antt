@@ -3,6 +3,7 @@ use Rattle.std.proofs.Common.{◌≡◌, ◌≢◌, ℕ, ◌+◌, List, [], ◌�
 use Rattle.std.specs.Prelude.{IsTrue, ◌&&◌, ◌||◌, not}
 use Rattle.std.specs.FinMap.Entries.{find, put, where_key, is_sorted}
 use Rattle.std.specs.Ordering.{eq_by_cmp}
+use Rattle.std.proofs.lemmas.Bool.{and_from}
 use Rattle.value_model.specs.declared.key.Key.{Key}
 use Rattle.value_model.specs.declared.key.Key.TheVariants as key
 use Rattle.value_model.specs.declared.words.Kind.{Kind}
@@ -43,10 +44,6 @@ Sorted es = IsTrue (is_sorted key_cmp es)
 abbrev pub Flat : Table → Type 0
 Flat es = IsTrue (is_flat_table es)
 
-both : (a b : Bool) → IsTrue a → IsTrue b → IsTrue (a && b)
-both true b p q = q
-both false b p q = absurd (cc)
-
 -- ---- edits keep a table flat
 flat_head : (e : Key × Plain) (es : Table) → Flat (e ∷ es) → IsTrue (is_field_key e.0 && is_integer e.1)
 flat_head e es h = left_true (is_field_key e.0 && is_integer e.1) (is_flat_table es) h
@@ -55,16 +52,16 @@ flat_tail : (e : Key × Plain) (es : Table) → Flat (e ∷ es) → Flat es
 flat_tail e es h = right_true (is_field_key e.0 && is_integer e.1) (is_flat_table es) h
 
 put_at : (k : Key) (w : Plain) (e : Key × Plain) (es : Table) (o : Ordering) → key_cmp k e.0 ≡ o → IsTrue (is_field_key k) → IsTrue (is_integer w) → Flat (e ∷ es) → Flat (put key_cmp k w es) → Flat (put key_cmp k w (e ∷ es))
-put_at k w e es Less p f g h ih = rw p (both _ _ (both _ _ f g) h)
-put_at k w e es Equal p f g h ih = rw p (both _ _ (both _ _ (left_true (is_field_key e.0) (is_integer e.1) (flat_head e es h)) g) (flat_tail e es h))
-put_at k w e es Greater p f g h ih = rw p (both _ _ (flat_head e es h) ih)
+put_at k w e es Less p f g h ih = rw p (and_from _ _ (and_from _ _ f g) h)
+put_at k w e es Equal p f g h ih = rw p (and_from _ _ (and_from _ _ (left_true (is_field_key e.0) (is_integer e.1) (flat_head e es h)) g) (flat_tail e es h))
+put_at k w e es Greater p f g h ih = rw p (and_from _ _ (flat_head e es h) ih)
 
 pub flat_put : (k : Key) (w : Plain) (es : Table) → IsTrue (is_field_key k) → IsTrue (is_integer w) → Flat es → Flat (put key_cmp k w es)
-flat_put k w [] f g h = both _ _ (both _ _ f g) refl
+flat_put k w [] f g h = and_from _ _ (and_from _ _ f g) refl
 flat_put k w (e ∷ es) f g h = put_at k w e es (key_cmp k e.0) refl f g h (flat_put k w es f g (flat_tail e es h))
 
 kept_at : (b : Bool) (e : Key × Plain) (es rest : Table) → Flat (e ∷ es) → Flat rest → Flat (cond b (e ∷ rest) rest)
-kept_at true e es rest h ih = both _ _ (flat_head e es h) ih
+kept_at true e es rest h ih = and_from _ _ (flat_head e es h) ih
 kept_at false e es rest h ih = ih
 
 pub flat_without : (k : Key) (es : Table) → Flat es → Flat (without_key k es)

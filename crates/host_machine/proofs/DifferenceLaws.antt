@@ -3,6 +3,7 @@ use Rattle.std.proofs.Common.{◌≡◌, List, [], ◌∷◌, ◌++◌, ap, refl
 use Rattle.std.specs.Prelude.{IsTrue, ◌&&◌}
 use Rattle.std.specs.Ordering.{is_lt}
 use Rattle.std.specs.FinMap.Entries.{find, put, is_sorted, below_all}
+use Rattle.std.proofs.lemmas.Bool.{and_from}
 use Rattle.value_model.specs.declared.key.Key.{Key}
 use Rattle.value_model.specs.declared.words.Op.TheVariants.{Add, Remove}
 use Rattle.value_model.specs.Order.{key_cmp, key_total, key_exact}
@@ -15,24 +16,20 @@ use Rattle.host_machine.specs.Differences.{union, keys, patch, change, changes, 
 abbrev Above : Key → Table → Type 0
 Above k es = below_all key_cmp k es ≡ true
 
-both_true : (a b : Bool) → a ≡ true → b ≡ true → (a && b) ≡ true
-both_true true b p q = q
-both_true false b p q = p
-
 -- an entry above k, and what is above it
 above_next : (k : Key) (e : Key × Plain) (es : Table) → key_cmp k e.0 ≡ Less → Above e.0 es → Above k es
 above_next k e [] p h = refl
 above_next k e (d ∷ ds) p h =
     let q : key_cmp k d.0 ≡ Less = key_total.trans k e.0 d.0 p (less_from_test _ (left_true _ _ h)) in
-    both_true _ _ (ap is_lt q) (above_next k e ds p (right_true _ _ h))
+    and_from _ _ (ap is_lt q) (above_next k e ds p (right_true _ _ h))
 
 put_above : (k : Key) (f e : Key × Plain) (es : Table) (o : Ordering) → key_cmp f.0 e.0 ≡ o → key_cmp k f.0 ≡ Less → Above k (e ∷ es) → Above k (put key_cmp f.0 f.1 es) → Above k (put key_cmp f.0 f.1 (e ∷ es))
-put_above k f e es Less q p h ih = rw q (both_true _ _ (ap is_lt p) h)
+put_above k f e es Less q p h ih = rw q (and_from _ _ (ap is_lt p) h)
 put_above k f e es Equal q p h ih = rw q h
-put_above k f e es Greater q p h ih = rw q (both_true _ _ (left_true _ _ h) ih)
+put_above k f e es Greater q p h ih = rw q (and_from _ _ (left_true _ _ h) ih)
 
 above_put : (k : Key) (f : Key × Plain) (es : Table) → key_cmp k f.0 ≡ Less → Above k es → Above k (put key_cmp f.0 f.1 es)
-above_put k f [] p h = both_true _ _ (ap is_lt p) refl
+above_put k f [] p h = and_from _ _ (ap is_lt p) refl
 above_put k f (e ∷ es) p h = put_above k f e es (key_cmp f.0 e.0) refl p h (above_put k f es p (right_true _ _ h))
 
 above_union : (k : Key) (es fs : Table) → Above k es → Above k fs → Above k (union es fs)
@@ -80,7 +77,7 @@ missing : (k : Key) (e : Key × Plain) (es : Table) → key_cmp k e.0 ≡ Less �
 missing k e es p h = rw p (none_below k e.0 es p (left_true _ _ h)).nothing
 
 above_all : (k : Key) (e : Key × Plain) (es : Table) → key_cmp k e.0 ≡ Less → Sorted (e ∷ es) → Above k (e ∷ es)
-above_all k e es p h = both_true _ _ (ap is_lt p) (above_next k e es p (left_true _ _ h))
+above_all k e es p h = and_from _ _ (ap is_lt p) (above_next k e es p (left_true _ _ h))
 
 -- the first key of both: its patch, and the others'
 first_key : (u : Key × Plain) (us old new : Table) (v w : Option Plain) (rest : List Patch) → union old new ≡ u ∷ us → find key_cmp u.0 old ≡ v → find key_cmp u.0 new ≡ w

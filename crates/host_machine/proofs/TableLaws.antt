@@ -3,6 +3,7 @@ use Rattle.std.proofs.Common.{◌≡◌, ◌≢◌, ℕ, zero, suc, ◌<◌, Lis
 use Rattle.std.specs.Prelude.{IsTrue, ◌&&◌}
 use Rattle.std.specs.FinMap.Entries.{find, is_sorted, same_entries}
 use Rattle.std.proofs.lemmas.Cmp.{tied_itself}
+use Rattle.std.proofs.lemmas.Bool.{and_left, and_right}
 use lib.Dec.{T}
 use Rattle.value_model.specs.declared.key.Key.{Key}
 use Rattle.value_model.specs.Order.{key_cmp, key_total, key_exact}
@@ -20,14 +21,6 @@ both : (a b : Bool) → a ≡ true → (a && b) ≡ b
 both true b h = refl
 both false b h = absurd (cc)
 
-neither : (a b : Bool) → a ≡ false → (a && b) ≡ false
-neither true b h = absurd (cc)
-neither false b h = refl
-
-right_false : (a b : Bool) → b ≡ false → (a && b) ≡ false
-right_false true b h = h
-right_false false b h = refl
-
 and_true : (a : Bool) → (a && true) ≡ a
 and_true true = refl
 and_true false = refl
@@ -41,7 +34,7 @@ pub other_length : (ds es : Table) → length ds ≢ length es → same_table ds
 other_length [] [] h = absurd (h refl)
 other_length [] (e ∷ es) h = refl
 other_length (d ∷ ds) [] h = refl
-other_length (d ∷ ds) (e ∷ es) h = right_false _ _ (other_length ds es (λ p. h (ap suc p)))
+other_length (d ∷ ds) (e ∷ es) h = and_right _ _ (other_length ds es (λ p. h (ap suc p)))
 
 -- where one value was set, the tables are the same exactly where it is
 pub same_set : {X : Type 0} (f : X → Key × Plain) (xs : List X) (i : ℕ) (d x : X) → HasPrimitives (map f xs) → i < length xs → (f x).0 ≡ (f (get_or xs i d)).0 → same_table (map f xs) (map f (set xs i x)) ≡ same (f (get_or xs i d)).1 (f x).1

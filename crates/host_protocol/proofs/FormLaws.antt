@@ -1,6 +1,7 @@
 -- A line of the form that is built so far is a command of that form.
 use Rattle.std.proofs.Common.{◌≡◌, ℕ, ℤ, List, [], ◌∷◌, refl, subst, true, false, Bool, cond}
 use Rattle.std.specs.Prelude.{IsTrue, ◌&&◌, Option, Some, None, is_some, option_and_then, Result, Ok, Err, codes, unwrap_or}
+use Rattle.std.proofs.lemmas.Bool.{and_from}
 use Rattle.serde_json.specs.Data.{Data, null, boolean, number, string, array, object, Items, no_items, item}
 use Rattle.serde_json.specs.Find.{get, as_array, as_number, as_str}
 use Rattle.value_model.specs.declared.key.Key.{Key}
@@ -76,13 +77,9 @@ op_value None d v e h = absurd (cc)
 op_value (Some o) d v e h = value_flat o d v e h
 
 -- ---- a patch, and a list of patches
-both_flat : (a b : Bool) → IsTrue a → IsTrue b → IsTrue (a && b)
-both_flat true b p q = q
-both_flat false b p q = absurd (cc)
-
 parts_flat : (o : Op) (rk : Answer (List Key)) (rv : Answer (Option Plain)) (p : Patch) → and_then (λ (path : List Key). result_map (patch_of o path) rv) rk ≡ Ok p
     → ((ks : List Key) → rk ≡ Ok ks → IsTrue (is_flat_path ks)) → ((v : Option Plain) → rv ≡ Ok v → IsTrue (is_flat_value o v)) → IsTrue (is_flat_patch p)
-parts_flat o (Ok ks) (Ok v) p e h g = let same : patch_of o ks v ≡ p = cc in subst (λ (q : Patch). IsTrue (is_flat_patch q)) same (both_flat _ _ (h ks refl) (g v refl))
+parts_flat o (Ok ks) (Ok v) p e h g = let same : patch_of o ks v ≡ p = cc in subst (λ (q : Patch). IsTrue (is_flat_patch q)) same (and_from _ _ (h ks refl) (g v refl))
 parts_flat o (Ok ks) (Err w) p e h g = absurd (cc)
 parts_flat o (Err w) rv p e h g = absurd (cc)
 
@@ -97,7 +94,7 @@ patch_flat d p e h =
 
 items_at : (rp : Answer Patch) (rs : Answer (List Patch)) (ps : List Patch) → and_then (λ (p : Patch). result_map (λ (qs : List Patch). p ∷ qs) rs) rp ≡ Ok ps
     → ((p : Patch) → rp ≡ Ok p → IsTrue (is_flat_patch p)) → ((qs : List Patch) → rs ≡ Ok qs → IsTrue (are_flat qs)) → IsTrue (are_flat ps)
-items_at (Ok p) (Ok qs) ps e h g = let same : p ∷ qs ≡ ps = cc in subst (λ (rs : List Patch). IsTrue (are_flat rs)) same (both_flat _ _ (h p refl) (g qs refl))
+items_at (Ok p) (Ok qs) ps e h g = let same : p ∷ qs ≡ ps = cc in subst (λ (rs : List Patch). IsTrue (are_flat rs)) same (and_from _ _ (h p refl) (g qs refl))
 items_at (Ok p) (Err w) ps e h g = absurd (cc)
 items_at (Err w) rs ps e h g = absurd (cc)
 

@@ -12,6 +12,7 @@ use Rattle.run_heap.specs.declared.fault.DraftFault.TheVariants as fault
 use Rattle.run_heap.specs.Heap.{Heap, shown, is_foreign}
 use Rattle.run_heap.specs.Operations.{unless, any_foreign, is_frozen, is_list, is_undefined, edited, edit_shown, then_write, then_read, rows_of, rewrite, table_of, kind_of}
 use Rattle.run_heap.specs.Sound.{IsObject, IsContainer, IsStored, AllStored, Owned, AllOwned}
+use Rattle.run_heap.specs.Laws.{left_false, right_false}
 use Rattle.list_rows.specs.Calls.{elements, items, on_list, with_items, read_list, read_shown}
 
 -- the elements of a container, as a list has them
@@ -62,14 +63,6 @@ pub record IsWritable (h : Heap) (of : Rv) (others : List Rv) (n : ℕ) : Type 0
   pub long : n ≡ length (table_of h of)
 
 -- ---- from tests in code to these facts
-left_false : (a b : Bool) → (a || b) ≡ false → a ≡ false
-left_false true b h = h
-left_false false b h = refl
-
-right_false : (a b : Bool) → (a || b) ≡ false → b ≡ false
-right_false true b h = absurd (cc)
-right_false false b h = h
-
 not_true : (b : Bool) → not b ≡ false → b ≡ true
 not_true true h = refl
 not_true false h = absurd (cc)

@@ -16,6 +16,7 @@ use Rattle.value_model.specs.Order.{key_cmp, key_total, key_exact}
 use Rattle.value_model.specs.Plain as plain_value
 use Rattle.value_model.specs.Plain.{list_of}
 use Rattle.value_model.specs.Well.{all_fit, all_well, well}
+use Rattle.value_model.specs.Search.{left_true, right_true}
 use Rattle.numbered.specs.Tree as tree
 use Rattle.numbered.specs.Tree.{Tree, prim, node, plain, plains, own_weight}
 use Rattle.numbered.specs.Store.{tree_at, used, IsNext, IsStore}
@@ -28,7 +29,7 @@ use Rattle.node_store.specs.declared.held.Measures.{Measures}
 use Rattle.node_store.specs.Nodes.{cells_fit, no_keys, ascending, is_node, key_of, rows, CellBelow, CellsBelow, cell_tree, branches, built}
 use Rattle.node_store.specs.Kept.{sums, IsPaired, tree_of, IsKept}
 use Rattle.node_store.specs.Tables.{cells_of_rows, keys_again, all_of_store, zip_keys}
-use Rattle.node_store.specs.Shown.{left_true, right_true, own_keys, sorted_alike, list_keys}
+use Rattle.node_store.specs.Shown.{own_keys, sorted_alike, list_keys}
 use Rattle.node_store.specs.Sums.{keys_weight, cell_weights, cell_values, deepest_cell, cell_containers, own_weights, weight_built, own_built, values_built, depth_built, containers_built, IsLight, IsMeasured}
 
 -- the state that a node stands for, if it is added

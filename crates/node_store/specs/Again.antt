@@ -9,11 +9,11 @@ use Rattle.value_model.specs.declared.words.Kind.{Kind}
 use Rattle.value_model.specs.declared.words.Kind.TheVariants as kind
 use Rattle.value_model.specs.Order.{key_exact}
 use Rattle.value_model.specs.Well.{all_fit}
+use Rattle.value_model.specs.Search.{left_true, right_true}
 use Rattle.numbered.specs.Tree.{Tree, Branches, prim, node, none, branch, plains}
 use Rattle.numbered.specs.Store.{IsNumber, tree_at, IsNext, IsStore, IsOf, AllOf}
 use Rattle.numbered.specs.Laws.{state_at}
 use Rattle.node_store.specs.Nodes.{rows, cell_tree, branches, built, kind_of, keys_in, keys_at, keys_of, cell_of, cells_in, cells_of}
-use Rattle.node_store.specs.Shown.{left_true, right_true}
 
 cell_back : (us : List Tree) (t : Tree) → IsOf us t → cell_tree us (cell_of t) ≡ t
 cell_back us (prim k) h = refl

@@ -5,6 +5,7 @@ use Rattle.std.specs.List.{zip}
 use Rattle.std.proofs.lemmas.List.{append_assoc, append-nil}
 use Rattle.std.proofs.lemmas.Cmp.{tied_itself}
 use Rattle.std.specs.FinMap.Entries.{is_sorted}
+use Rattle.std.proofs.lemmas.Bool.{or_left, and_from, or_parts}
 use Rattle.value_model.specs.declared.key.Key.{Key}
 use Rattle.value_model.specs.declared.key.Key.TheVariants as key
 use Rattle.value_model.specs.declared.words.Kind.{Kind}
@@ -134,15 +135,12 @@ loading_step ts all us vs rs k v rest c l d =
       within = l.within.1;
     }
 
-true_or : (a b : Bool) → a ≡ true → (a || b) ≡ true
-true_or a b h = rw h refl
-
 -- a refusal in the first entry is one of the whole
 pub loading_refused : (ts : List Tree) (all : Entries) (us vs : List Tree) (rs : List (Key × Cell)) (k : Key) (v : Plain) (rest : Entries) (e : StoreFault) → IsLoading ts all us rs (plain_value.entry k v rest) → Refused us vs (load_full us v) e → Refused ts vs (full_in ts all) e
 loading_refused ts all us vs rs k v rest e l r =
     let n = length us + 1 in (
       extends_then ts us vs l.extends r.0,
-      λ f. sym l.room ∙ full_append us (post_order (numbered n v)) (post_orders (numbered_in (n + places v) rest)) ∙ true_or (load_full us v) (any_full (loaded us v) (post_orders (numbered_in (n + places v) rest))) (r.1 f),
+      λ f. sym l.room ∙ full_append us (post_order (numbered n v)) (post_orders (numbered_in (n + places v) rest)) ∙ or_left (load_full us v) (any_full (loaded us v) (post_orders (numbered_in (n + places v) rest))) (r.1 f),
     )
 
 -- ---- all entries were loaded
@@ -201,7 +199,7 @@ module _ (ts us : List Tree) (of : Kind) (es : Entries) (ks : List Key) (cs : Li
 pub refused_in : (ts us : List Tree) (of : Kind) (es : Entries) (e : StoreFault) → Refused ts us (full_in ts es) e → Refused ts us (load_full ts (plain_value.node of es)) e
 refused_in ts us of es e r =
     let t = numbered (length ts + 1) (plain_value.node of es) in
-    (r.0, λ f. full_append ts (post_orders (numbered_in (length ts + 1) es)) (t ∷ []) ∙ true_or (full_in ts es) (is_full (loaded_in ts es) t || false) (r.1 f))
+    (r.0, λ f. full_append ts (post_orders (numbered_in (length ts + 1) es)) (t ∷ []) ∙ or_left (full_in ts es) (is_full (loaded_in ts es) t || false) (r.1 f))
 
 -- ---- the node of a container whose entries were loaded
 at_end : (us : List Tree) (t : Tree) → get_or (us ++ t ∷ []) (length us) (prim key.Null) ≡ t
@@ -270,18 +268,15 @@ map_cells : (rs : List (Key × Cell)) → cells_fit kind.Map (map (λ r. r.0) rs
 map_cells [] = refl
 map_cells (r ∷ rs) = map_cells rs
 
-both_true : (a b : Bool) → a ≡ true → b ≡ true → (a && b) ≡ true
-both_true a b p q = rw (p, q) refl
-
 pub obj_node : (ts : List Tree) (es : Entries) (us : List Tree) (rs : List (Key × Cell)) → AreLoaded ts es us rs → is_sorted key_cmp (list_of es) ≡ true → all_fit kind.Obj es ≡ true → is_node kind.Obj (map (λ r. r.0) rs) (map (λ r. r.1) rs) ≡ true
 obj_node ts es us rs a s f =
     let e : plains (branches us rs) ≡ es = ap plains a.same ∙ plains_numbered (length ts + 1) es in
-    both_true _ _ (table_ascends us rs es e s) (obj_cells us rs (ap (all_fit kind.Obj) e ∙ f))
+    and_from _ _ (table_ascends us rs es e s) (obj_cells us rs (ap (all_fit kind.Obj) e ∙ f))
 
 pub map_node : (ts : List Tree) (es : Entries) (us : List Tree) (rs : List (Key × Cell)) → AreLoaded ts es us rs → is_sorted key_cmp (list_of es) ≡ true → is_node kind.Map (map (λ r. r.0) rs) (map (λ r. r.1) rs) ≡ true
 map_node ts es us rs a s =
     let e : plains (branches us rs) ≡ es = ap plains a.same ∙ plains_numbered (length ts + 1) es in
-    both_true _ _ (table_ascends us rs es e s) (map_cells rs)
+    and_from _ _ (table_ascends us rs es e s) (map_cells rs)
 
 -- ---- limits hold inside
 within_limits : (v : Plain) → value_limit v ≡ None → (nat_lt 32 (plain_value.depth v) ≡ false) × (nat_lt (2 ^ 20) (plain_value.weight v) ≡ false) × (has_long_key v ≡ false) × (has_reserved_key v ≡ false)
@@ -302,27 +297,19 @@ within_limits v = elim (nat_lt 32 (plain_value.depth v)) as (λ a. nat_lt 32 (pl
 limit_from : (v : Plain) → nat_lt 32 (plain_value.depth v) ≡ false → nat_lt (2 ^ 20) (plain_value.weight v) ≡ false → has_long_key v ≡ false → has_reserved_key v ≡ false → value_limit v ≡ None
 limit_from v a b c d = rw (a, b, c, d) refl
 
-left_false : (a b : Bool) → (a || b) ≡ false → a ≡ false
-left_false true b h = h
-left_false false b h = refl
-
-right_false : (a b : Bool) → (a || b) ≡ false → b ≡ false
-right_false true b h = absurd (cc)
-right_false false b h = h
-
 all_within_from : (of : Kind) (es : Entries) → nat_lt 32 (plain_value.deepest es) ≡ false → nat_lt (2 ^ 20) (plain_value.weights of es) ≡ false → any_long_key es ≡ false → any_reserved_key of es ≡ false → AllWithin es
 all_within_from of plain_value.none a b c d = tt
 all_within_from of (plain_value.entry k v es) a b c d = (
   limit_from v
       (grind (arith, a))
       (grind (arith, b))
-      (right_false (is_long_key k) (has_long_key v) (left_false (is_long_key k || has_long_key v) (any_long_key es) c))
-      (right_false (is_reserved_at of k) (has_reserved_key v) (left_false (is_reserved_at of k || has_reserved_key v) (any_reserved_key of es) d)),
+      (or_parts (is_long_key k) (has_long_key v) (or_parts (is_long_key k || has_long_key v) (any_long_key es) c).0).1
+      (or_parts (is_reserved_at of k) (has_reserved_key v) (or_parts (is_reserved_at of k || has_reserved_key v) (any_reserved_key of es) d).0).1,
   all_within_from of es
       (grind (arith, a))
       (grind (arith, b))
-      (right_false (is_long_key k || has_long_key v) (any_long_key es) c)
-      (right_false (is_reserved_at of k || has_reserved_key v) (any_reserved_key of es) d),
+      (or_parts (is_long_key k || has_long_key v) (any_long_key es) c).1
+      (or_parts (is_reserved_at of k || has_reserved_key v) (any_reserved_key of es) d).1,
 )
 
 -- what is in an accepted container is within the limits
@@ -404,6 +391,6 @@ set_cells_fit (k ∷ ks) = rw (tied_itself key_total k) (set_cells_fit ks)
 
 pub set_node : (ks : List Key) → is_sorted key_cmp (map (λ k. let e : Key × Plain = (k, plain_value.prim k) in e) ks) ≡ true → is_node kind.Set ks (map (λ k. cell.Prim k) ks) ≡ true
 set_node ks s =
-    both_true _ _
+    and_from _ _
     (sorted_alike (map (λ k. let q : Key × Key = (k, k) in q) ks) (map (λ k. let e : Key × Plain = (k, plain_value.prim k) in e) ks) (self_pairs ks ∙ sym (own_ascend ks)) ∙ s)
     (set_cells_fit ks)

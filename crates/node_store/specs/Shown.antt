@@ -15,7 +15,7 @@ use Rattle.value_model.specs.Order.{key_cmp, key_total, key_exact}
 use Rattle.value_model.specs.Places.{ascends_at}
 use Rattle.value_model.specs.Plain as plain_value
 use Rattle.value_model.specs.Plain.{Plain, Entries, list_of}
-use Rattle.value_model.specs.Search.{IsPlace, absent_at}
+use Rattle.value_model.specs.Search.{IsPlace, absent_at, left_true, right_true}
 use Rattle.value_model.specs.Well.{fits, all_fit, well}
 use Rattle.numbered.specs.Tree.{Tree, Branches, prim, node, none, branch, plain, plains, containers, containers_in, branches_of, children, before}
 use Rattle.numbered.specs.Store.{IsNumber, tree_at, IsNext, IsStore}
@@ -27,15 +27,6 @@ use Rattle.node_store.specs.Nodes.{key_of, rows, CellBelow, CellsBelow, cell_tre
 use Rattle.node_store.specs.Kept.{sums, IsPaired, IsHeld}
 use Rattle.node_store.specs.Tables.{cells_of_rows, cells_again, keys_again, zip_keys}
 use Rattle.node_store.specs.Sums.{cell_values, values_built}
-
--- ---- tests in a row
-pub left_true : (a b : Bool) → (a && b) ≡ true → a ≡ true
-left_true true b h = refl
-left_true false b h = h
-
-pub right_true : (a b : Bool) → (a && b) ≡ true → b ≡ true
-right_true true b h = h
-right_true false b h = absurd (cc)
 
 -- ---- the cells
 pub rows_below : (us : List Tree) (h : Held) (id : ℕ) → IsHeld us h id → CellsBelow us (map (λ r. r.1) (rows h.kind h.keys.items h.cells.items))

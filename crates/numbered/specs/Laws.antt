@@ -4,6 +4,7 @@ use Rattle.std.specs.Prelude.{Some, None, nat_lt, Bool, ◌||◌, ◌^◌, slice
 use Rattle.std.specs.List.{range_with_len}
 use Rattle.std.proofs.lemmas.List.{append-nil, append_assoc, map-append}
 use Rattle.std.proofs.lemmas.Grind.{common_steps, elements}
+use Rattle.std.proofs.lemmas.Bool.{or_right}
 use Rattle.value_model.specs.declared.key.Key.{Key}
 use Rattle.value_model.specs.declared.key.Key.TheVariants as key
 use Rattle.value_model.specs.declared.words.Kind.{Kind}
@@ -301,10 +302,6 @@ used_loaded next kind es =
     used_post t ∙ (λ i. weight (plain_numbered next (plain_value.node kind es) i) + containers_numbered next (plain_value.node kind es) i)
 
 -- ---- additions made in turn
-or_true : (b : Bool) → (b || true) ≡ true
-or_true true = refl
-or_true false = refl
-
 or_assoc : (a b c : Bool) → (a || (b || c)) ≡ ((a || b) || c)
 or_assoc true b c = refl
 or_assoc false b c = refl
@@ -321,7 +318,7 @@ full_together ts (t ∷ more) a b =
     elim (nat_lt 2097150 (length ts)) as (λ x. nat_lt 2097150 (length ts) ≡ x → any_full ts (t ∷ more) ≡ nat_lt 2097151 (length ts + length (t ∷ more)) || nat_lt (2 ^ 25) (used ts + used (t ∷ more))) [
       | true ↦ λ p. let yes : nat_lt 2097151 (length ts + suc (length more)) ≡ true = grind (arith, p) in rw (p, yes) refl
       | false ↦ λ p. elim (nat_lt (2 ^ 25) (used ts + own_weight t)) as (λ y. nat_lt (2 ^ 25) (used ts + own_weight t) ≡ y → any_full ts (t ∷ more) ≡ nat_lt 2097151 (length ts + length (t ∷ more)) || nat_lt (2 ^ 25) (used ts + used (t ∷ more))) [
-        | true ↦ λ q. let yes : nat_lt (2 ^ 25) (used ts + (own_weight t + used more)) ≡ true = grind (arith, q) in rw (p, q, yes) (sym (or_true _))
+        | true ↦ λ q. let yes : nat_lt (2 ^ 25) (used ts + (own_weight t + used more)) ≡ true = grind (arith, q) in rw (p, q, yes) (sym (or_right _ true refl))
         | false ↦ λ q.
             let rest = full_together (ts ++ t ∷ []) more (grind (arith, l, p)) (grind (arith, w, q)) in
             let len : length ts + suc (length more) ≡ length (ts ++ t ∷ []) + length more = omega (arith, l) in

@@ -1,6 +1,7 @@
 -- The last patch that replaces the root, and what applying is by it.
 use Rattle.std.specs.Prelude.{◌≡◌, ℕ, ◌+◌, ◌<◌, List, [], ◌∷◌, length, Bool, true, false, Option, Some, None, if◌then◌else◌, refl}
 use Rattle.std.proofs.Common.{suc, ap, sym, ◌∙◌, arith, drop, get_or, cond, ◌⊎◌, inl, inr, ◌||◌}
+use Rattle.std.proofs.lemmas.Bool.{or_from, or_right}
 use Rattle.patch_meaning.specs.Applying.{applied, applied_at, applied_from, from_root, has_root_replace, is_root_replace}
 use Rattle.value_model.specs.Plain.{Plain}
 use Rattle.values.specs.declared.patch.Patch.{Patch}
@@ -25,19 +26,11 @@ neither (Some j) b i h = absurd (cc)
 neither None true i h = absurd (cc)
 neither None false i h = record { first = refl; second = refl }
 
-none_or : (a b : Bool) → a ≡ false → b ≡ false → (a || b) ≡ false
-none_or true b p q = absurd (cc)
-none_or false b p q = q
-
-some_or : (a b : Bool) → b ≡ true → (a || b) ≡ true
-some_or true b q = refl
-some_or false b q = q
-
 no_root : (i : ℕ) (ps : List Patch) → last_from i ps ≡ None → has_root_replace ps ≡ false
 no_root i [] h = refl
 no_root i (p ∷ ps) h =
     let parts = neither (last_from (i + 1) ps) (is_root_replace p) i h in
-    none_or (is_root_replace p) (has_root_replace ps) parts.second (no_root (i + 1) ps parts.first)
+    or_from (is_root_replace p) (has_root_replace ps) parts.second (no_root (i + 1) ps parts.first)
 
 none_at : (i : ℕ) (ps : List Patch) (x : Plain) → last_from i ps ≡ None → applied_at i ps x ≡ applied_from i ps x
 none_at i [] x h = refl
@@ -57,7 +50,7 @@ a_root : (i : ℕ) (ps : List Patch) (j : ℕ) → last_from i ps ≡ Some j →
 a_root i [] j h = absurd (cc)
 a_root i (p ∷ ps) j h =
     elim (either (last_from (i + 1) ps) (is_root_replace p) i j h) [
-      | inl found ↦ some_or (is_root_replace p) (has_root_replace ps) (a_root (i + 1) ps j found)
+      | inl found ↦ or_right (is_root_replace p) (has_root_replace ps) (a_root (i + 1) ps j found)
       | inr here ↦ rw here.second
     ]
 

@@ -3,6 +3,7 @@ use Rattle.std.proofs.Common.{◌≡◌, ◌≢◌, ℕ, zero, suc, ◌+◌, ◌
 use Rattle.std.specs.Prelude.{◌&&◌, ◌||◌, ◌==◌, ◌^◌, nat_lt, if◌then◌else◌, Option, Some, None, slice_get, ⊤, cond, pos, negsuc, Result, Ok, Err}
 use Rattle.std.specs.FinMap.Entries.{is_sorted, below_all, find}
 use Rattle.std.specs.Ordering.{is_eq, is_lt, eq_by_cmp}
+use Rattle.std.proofs.lemmas.Bool.{or_left, not-false}
 use Rattle.value_model.specs.declared.key.Key.{Key}
 use Rattle.value_model.specs.declared.key.Key.TheVariants as key
 use Rattle.value_model.specs.declared.words.Kind.{Kind}
@@ -14,6 +15,7 @@ use Rattle.value_model.specs.Places.{ascends_at}
 use Rattle.value_model.specs.Plain as plain_value
 use Rattle.value_model.specs.Plain.{Plain, Entries, list_of}
 use Rattle.value_model.specs.Well.{well, all_fit}
+use Rattle.value_model.specs.Search.{left_true, right_true}
 use Rattle.numbered.specs.Laws.{place_of, well_at, accepted_at, children_of}
 use Rattle.numbered.specs.Store.{IsNumber, IsStore, IsOf, AllOf, tree_at}
 use Rattle.numbered.specs.Tree.{Tree, Branches, prim, node, none, branch, plain, plains, containers, containers_in, place, place_in}
@@ -29,14 +31,6 @@ use Rattle.run_heap.specs.Operations.{Rows, source_in, or_undefined, value_at, e
 use Rattle.run_heap.specs.Sound.{IsStored, Fits, Owned, RowsStored, all_stand, ascends, IsTable, IsContent, IsOpenedAs, HasSource, IsSound, Keeps, Grows}
 use Rattle.run_heap.specs.Values.{same, same_tables}
 
-pub left_true : (a b : Bool) → (a && b) ≡ true → a ≡ true
-left_true true b h = refl
-left_true false b h = h
-
-pub right_true : (a b : Bool) → (a && b) ≡ true → b ≡ true
-right_true true b h = h
-right_true false b h = absurd (cc)
-
 pub left_false : (a b : Bool) → (a || b) ≡ false → a ≡ false
 left_false true b h = h
 left_false false b h = refl
@@ -44,10 +38,6 @@ left_false false b h = refl
 pub right_false : (a b : Bool) → (a || b) ≡ false → b ≡ false
 right_false true b h = absurd (cc)
 right_false false b h = h
-
-not_false : (b : Bool) → not b ≡ false → b ≡ true
-not_false true h = refl
-not_false false h = absurd (cc)
 
 -- ---- values and tables that are the same are equal
 eq_of : (m n : ℕ) → (m == n) ≡ true → m ≡ n
@@ -283,7 +273,7 @@ kept_mark t c (Some b) h = (
   h.1,
   λ w.
       let old : c.written ≡ false = left_false _ _ w in
-      let e : c.table ≡ t = same_tables_exact c.table t (not_false _ (right_false _ _ w)) in
+      let e : c.table ≡ t = same_tables_exact c.table t (not-false _ (right_false _ _ w)) in
       let same_mark : (c.written || not (same_tables c.table t)) ≡ c.written = w ∙ sym old in
       let back : rewritten t c ≡ c = λ i. record { kind = c.kind; table = sym e i; source = c.source; written = same_mark i } in
       back ∙ h.2 old,
@@ -317,10 +307,6 @@ update_sound h n t c s o tab =
       sources = λ m. by_name (λ (x : Option Content). HasSource g (source_in x)) h n m d (source_on h g c.source (update_on h n d) (subst (λ (x : Option Content). HasSource h (source_in x)) o (s.sources n))) (source_on h g (source_in (h.object m)) (update_on h n d) (s.sources m));
     }
 
-or_true : (a b : Bool) → a ≡ true → (a || b) ≡ true
-or_true true b h = refl
-or_true false b h = absurd (cc)
-
 keeps_refl : (c : Option Content) → Keeps c c
 keeps_refl None = tt
 keeps_refl (Some c) = (refl, refl, λ w. w)
@@ -335,7 +321,7 @@ grows_update h n t c o = record {
   root = refl;
   more = omega arith;
   keeps = λ m. elim (m == n) as (λ b. (m == n) ≡ b → Keeps (h.object m) (if b then Some (rewritten t c) else h.object m)) [
-    | true ↦ λ p. rw (at_name h n m c o p) (refl, refl, λ w. or_true c.written _ w)
+    | true ↦ λ p. rw (at_name h n m c o p) (refl, refl, λ w. or_left c.written _ w)
     | false ↦ λ p. keeps_refl (h.object m)
   ] refl;
 }

@@ -3,19 +3,17 @@ use Rattle.std.proofs.Common.{◌≡◌, ℕ, zero, suc, List, [], ◌∷◌, �
 use Rattle.std.specs.Prelude.{◌&&◌, ◌==◌, slice_set, if◌then◌else◌}
 use Rattle.std.specs.FinMap.Entries.{put, where_key, is_sorted, by_order, is_sorted-put, is_sorted-where_key}
 use Rattle.std.specs.Ordering.{eq_by_cmp}
+use Rattle.std.proofs.lemmas.Bool.{and_from}
 use lib.Dec.{T}
 use Rattle.value_model.specs.declared.key.Key.{Key}
 use Rattle.value_model.specs.declared.words.Kind.{Kind}
 use Rattle.value_model.specs.declared.words.Kind.TheVariants as kind
 use Rattle.value_model.specs.Order.{key_cmp, key_total, key_exact}
+use Rattle.value_model.specs.Search.{left_true, right_true}
 use Rattle.run_heap.specs.declared.value.Rv.{Rv}
 use Rattle.run_heap.specs.Heap.{Heap}
-use Rattle.run_heap.specs.Laws.{left_true, right_true}
 use Rattle.run_heap.specs.Operations.{Rows, item, without, set_element, spliced}
 use Rattle.run_heap.specs.Sound.{IsStored, AllStored, RowsStored, may_stand, all_stand, ascends, IsTable}
-
-both_true : (a b : Bool) → a ≡ true → b ≡ true → (a && b) ≡ true
-both_true a b p q = rw (p, q) refl
 
 true_from_T : (b : Bool) → T b → b ≡ true
 true_from_T true h = refl
@@ -23,11 +21,11 @@ true_from_T false h = absurd h
 
 -- ---- an entry set
 stand_put : (of : Kind) (k : Key) (v : Rv) (t : Rows) → may_stand of k v ≡ true → all_stand of t ≡ true → all_stand of (put key_cmp k v t) ≡ true
-stand_put of k v [] m s = both_true _ true m refl
+stand_put of k v [] m s = and_from _ true m refl
 stand_put of k v (e ∷ t) m s = elim (key_cmp k e.0) as (λ o. key_cmp k e.0 ≡ o → all_stand of (by_order o ((k, v) ∷ e ∷ t) ((e.0, v) ∷ t) (e ∷ put key_cmp k v t)) ≡ true) [
-  | Less ↦ λ p. both_true _ _ m s
-  | Equal ↦ λ p. both_true _ _ (subst (λ (j : Key). may_stand of j v ≡ true) (key_exact k e.0 p) m) (right_true _ _ s)
-  | Greater ↦ λ p. both_true _ _ (left_true _ _ s) (stand_put of k v t m (right_true _ _ s))
+  | Less ↦ λ p. and_from _ _ m s
+  | Equal ↦ λ p. and_from _ _ (subst (λ (j : Key). may_stand of j v ≡ true) (key_exact k e.0 p) m) (right_true _ _ s)
+  | Greater ↦ λ p. and_from _ _ (left_true _ _ s) (stand_put of k v t m (right_true _ _ s))
 ] refl
 
 rows_put : (h : Heap) (k : Key) (v : Rv) (t : Rows) → IsStored h v → RowsStored h t → RowsStored h (put key_cmp k v t)
@@ -54,7 +52,7 @@ put_table h of k v t m a s = record { ascends = ascends_put of k v t s.ascends; 
 stand_where : (of : Kind) (p : Key → Bool) (t : Rows) → all_stand of t ≡ true → all_stand of (where_key key_cmp p t) ≡ true
 stand_where of p [] s = refl
 stand_where of p (e ∷ t) s = elim (p e.0) as (λ b. all_stand of (cond b (e ∷ where_key key_cmp p t) (where_key key_cmp p t)) ≡ true) [
-  | true ↦ both_true _ _ (left_true _ _ s) (stand_where of p t (right_true _ _ s))
+  | true ↦ and_from _ _ (left_true _ _ s) (stand_where of p t (right_true _ _ s))
   | false ↦ stand_where of p t (right_true _ _ s)
 ]
 
@@ -82,12 +80,12 @@ without_table h of k t s =
 -- ---- elements replaced
 stand_append : (of : Kind) (t u : Rows) → all_stand of t ≡ true → all_stand of u ≡ true → all_stand of (t ++ u) ≡ true
 stand_append of [] u a b = b
-stand_append of (e ∷ t) u a b = both_true _ _ (left_true _ _ a) (stand_append of t u (right_true _ _ a) b)
+stand_append of (e ∷ t) u a b = and_from _ _ (left_true _ _ a) (stand_append of t u (right_true _ _ a) b)
 
 stand_take : (of : Kind) (n : ℕ) (t : Rows) → all_stand of t ≡ true → all_stand of (take n t) ≡ true
 stand_take of zero t a = refl
 stand_take of (suc n) [] a = refl
-stand_take of (suc n) (e ∷ t) a = both_true _ _ (left_true _ _ a) (stand_take of n t (right_true _ _ a))
+stand_take of (suc n) (e ∷ t) a = and_from _ _ (left_true _ _ a) (stand_take of n t (right_true _ _ a))
 
 stand_drop : (of : Kind) (n : ℕ) (t : Rows) → all_stand of t ≡ true → all_stand of (drop n t) ≡ true
 stand_drop of zero t a = a
@@ -127,7 +125,7 @@ splice_table h from to vs t a s = record {
 element_stand : (i : ℕ) (v : Rv) (t : Rows) → all_stand kind.List t ≡ true → all_stand kind.List (slice_set t i (item v)) ≡ true
 element_stand i v [] a = refl
 element_stand zero v (e ∷ t) a = right_true _ _ a
-element_stand (suc i) v (e ∷ t) a = both_true _ _ (left_true _ _ a) (element_stand i v t (right_true _ _ a))
+element_stand (suc i) v (e ∷ t) a = and_from _ _ (left_true _ _ a) (element_stand i v t (right_true _ _ a))
 
 element_rows : (h : Heap) (i : ℕ) (v : Rv) (t : Rows) → IsStored h v → RowsStored h t → RowsStored h (slice_set t i (item v))
 element_rows h i v [] a s = tt

@@ -1,5 +1,6 @@
 -- Each rule for expressions is good for the language of its spelling.
 use Rattle.std.proofs.Common.{◌≡◌, ℕ, zero, suc, ◌-◌, ◌<◌, ◌≤◌, Bool, true, false, List, [], ◌∷◌, ◌++◌, length, Option, Some, refl, sym, ap, ◌∙◌, append-nil, arith, length-append}
+use Rattle.std.proofs.lemmas.Bool.{and_from}
 use Rattle.script_text.specs.declared.sign.Sign.{Sign}
 use Rattle.script_text.specs.declared.sign.Sign.TheVariants.{OpenRound, CloseRound, OpenBrace, CloseBrace, OpenSquare, CloseSquare, Colon, Dot as Point, Question, Star, Plus, Less, Same, And, Or}
 use Rattle.script_grammar.specs.Tokens.{Tok, Name, Fixed, Toks}
@@ -11,7 +12,7 @@ use Rattle.script_parser.specs.Tests.{fixed, name_of, text_of, word_of, lit_of, 
 use Rattle.script_parser.specs.Parser.{Below, expect, named, literal, rounded, elems, separated_by, listed, valued, short_by, prop_by, prop, props, objected, atom_by, atom, index, dot, suffix_by, suffix, suffixes, member, post, signed, unary_by, unary, then_link, chained, link, links, chain, choice, choice_by, expr}
 use Rattle.script_parser.proofs.Good.{Lang, Example, Good, Seq, Nothing, Consumes, good_pure, good_look, good_sub, good_bind}
 use Rattle.script_parser.proofs.Lists.{good_many, good_separated, many_is, separated_is}
-use Rattle.script_parser.proofs.Languages.{Just, NameAt, TextAt, WordAt, LitAt, SignAt, LinkSign, good_sign, good_name, good_text, good_key, good_lit, good_unary_sign, good_link_sign, Of, both_fit, ExAt, Goods, GoodBelow, good_opened, deep_sign}
+use Rattle.script_parser.proofs.Languages.{Just, NameAt, TextAt, WordAt, LitAt, SignAt, LinkSign, good_sign, good_name, good_text, good_key, good_lit, good_unary_sign, good_link_sign, Of, ExAt, Goods, GoodBelow, good_opened, deep_sign}
 use Rattle.script_parser.proofs.Tests.{of_unary}
 
 abbrev pub ElemsAt : ℕ → Lang Elems
@@ -102,7 +103,7 @@ round d b g = good_sub _ (AtomAt (suc d)) _ spelled
 
 good_elems : (d : ℕ) (b : Below) → Goods d b → Good (ElemsAt d) (elems b)
 good_elems d b g = good_separated (ExAt 8 d) (ElemsAt d) CloseSquare b.expr NoElems LastElem ThenElem g.expr
-    (λ n. (refl, tt, refl)) (λ n a x h. h) (λ n a c x y h k. (rw (h.0, k.0) refl, (h.1, k.1), both_fit _ _ h.2 (rw h.0 at k.2))) (consumes_ex 8 d)
+    (λ n. (refl, tt, refl)) (λ n a x h. h) (λ n a c x y h k. (rw (h.0, k.0) refl, (h.1, k.1), and_from _ _ h.2 (rw h.0 at k.2))) (consumes_ex 8 d)
 
 list : (d : ℕ) (b : Below) → Goods d b → Good (AtomAt (suc d)) (listed b)
 list d b g = good_sub _ (AtomAt (suc d)) _ spelled
@@ -143,7 +144,7 @@ by_prop d b g QuotedForm = good_sub _ (PropAt d) _ spelled
 
 good_props : (d : ℕ) (b : Below) → Goods d b → Good (PropsAt d) (props b)
 good_props d b g = good_separated (PropAt d) (PropsAt d) CloseBrace (prop b) NoProps LastProp ThenProp (good_look (PropAt d) _ (λ c. by_prop d b g (prop_form c)))
-    (λ n. (refl, tt, refl)) (λ n a x h. h) (λ n a c x y h k. (rw (h.0, k.0) refl, (h.1, k.1), both_fit _ _ h.2 (rw h.0 at k.2))) (λ n a x h. rw h.0 (some_prop a))
+    (λ n. (refl, tt, refl)) (λ n a x h. h) (λ n a c x y h k. (rw (h.0, k.0) refl, (h.1, k.1), and_from _ _ h.2 (rw h.0 at k.2))) (λ n a x h. rw h.0 (some_prop a))
 
 object : (d : ℕ) (b : Below) → Goods d b → Good (AtomAt (suc d)) (objected b)
 object d b g = good_sub _ (AtomAt (suc d)) _ spelled
@@ -183,7 +184,7 @@ by_suffix d i g false = good_dot d
 
 good_suffixes : (d : ℕ) (i : Option Below) → GoodBelow d i → Good (SuffixesAt d) (suffixes i)
 good_suffixes d i g = good_many (SuffixAt d) (SuffixesAt d) begins_suffix (suffix i) NoSuffixes ThenSuffix (good_look (SuffixAt d) _ (λ c. by_suffix d i g (sees OpenSquare c)))
-    (λ n. (refl, tt, refl)) (λ n a c x y h k. (rw (h.0, k.0) refl, (h.1, k.1), both_fit _ _ h.2 (rw h.0 at k.2))) (λ n a x h. rw h.0 (some_suffix a))
+    (λ n. (refl, tt, refl)) (λ n a c x y h k. (rw (h.0, k.0) refl, (h.1, k.1), and_from _ _ h.2 (rw h.0 at k.2))) (λ n a x h. rw h.0 (some_suffix a))
 
 pub spell_member : (e : Ex) (ss : Suffixes) → spell_ex (member e ss) ≡ spell_ex e ++ spell_suffixes ss
 spell_member e NoSuffixes = sym (append-nil (spell_ex e))
@@ -195,7 +196,7 @@ binds_member e (ThenSuffix s ss) a b c = (a, b, c.0, c.1)
 
 within_member : (e : Ex) (ss : Suffixes) (d n : ℕ) → within e d n ≡ true → within_suffixes ss d (n - length (spell_ex e)) ≡ true → within (member e ss) d n ≡ true
 within_member e NoSuffixes d n a b = a
-within_member e (ThenSuffix s ss) d n a b = both_fit _ _ a b
+within_member e (ThenSuffix s ss) d n a b = and_from _ _ a b
 
 pub good_post : (d : ℕ) (i : Option Below) → GoodBelow d i → Good (ExAt 0 d) (post i)
 good_post d i g = good_sub _ (ExAt 0 d) _ spelled (good_bind (AtomAt d) _ (atom i) _ (good_atom d i g) (λ e. good_bind (SuffixesAt d) _ (suffixes i) _ (good_suffixes d i g) (λ ss. good_pure (member e ss))))
@@ -242,7 +243,7 @@ good_link k d p h g = let s = sign_at k h in good_sub _ (LinkAt k d) _ spelled (
 
 pub good_links : (k d : ℕ) (p : Parser Ex) → k < 6 → Good (ExAt (suc k) d) p → Good (LinksAt k d) (links k p)
 good_links k d p h g = good_many (LinkAt k d) (LinksAt k d) (begins_link k) (link k p) NoLinks then_link (good_link k d p h g)
-    (λ n. (refl, tt, refl)) (λ n a c x y h k. (rw (h.0, k.0) refl, (h.1, h.2, k.1), both_fit _ _ h.3 (behind n a x y c h.0 k.2))) (λ n a x h. rw h.0 omega arith)
+    (λ n. (refl, tt, refl)) (λ n a c x y h k. (rw (h.0, k.0) refl, (h.1, h.2, k.1), and_from _ _ h.3 (behind n a x y c h.0 k.2))) (λ n a x h. rw h.0 omega arith)
   where
     behind : (n : ℕ) (a : Sign × Ex) (x y : Toks) (c : Links) → x ≡ Fixed a.0 ∷ spell_ex a.1 → within_links c d (n - length x) ≡ true → within_links c d (n - 1 - length (spell_ex a.1)) ≡ true
     behind n a x y c e f = let size : n - 1 - length (spell_ex a.1) ≡ n - length x = omega (arith, ap (λ (w : Toks). length w) e) in rw size f
@@ -257,7 +258,7 @@ binds_chained k a (ThenLink s x ls) h b c = (omega arith, h, b, c.0, c.1, c.2)
 
 within_chained : (k : ℕ) (a : Ex) (ls : Links) (d n : ℕ) → within a d n ≡ true → within_links ls d (n - length (spell_ex a)) ≡ true → within (chained k a ls) d n ≡ true
 within_chained k a NoLinks d n b c = b
-within_chained k a (ThenLink s x ls) d n b c = both_fit _ _ b c
+within_chained k a (ThenLink s x ls) d n b c = and_from _ _ b c
 
 pub good_chain : (d : ℕ) (i : Option Below) → GoodBelow d i → (k : ℕ) → k ≤ 6 → Good (ExAt (suc k) d) (chain i k)
 unfolding chain
@@ -280,12 +281,12 @@ good_choice c d b g = good_sub _ (ChoiceAt c (suc d)) _ spelled
   where
     spelled : (n : ℕ) (p : Ex) (ts : Toks) → Seq (Just Question) (λ _. Seq (ExAt 8 d) (λ x. Seq (Just Colon) (λ _. Seq (ExAt 8 d) (λ y. Nothing (Choice c x y))))) n p ts → ChoiceAt c (suc d) n p ts
     spelled n p ts h = let i = h.4 in let j = i.4 in let k = j.4 in let f = rw h.3 at i.3.2 in let u = rw (h.3, i.3.0, j.3) at k.3.2 in
-        rw (h.5, h.3, i.5, i.3.0, j.5, j.3, k.5, k.3.0, k.4.1, k.4.0, append-nil) (refl, λ b. (omega arith, b, i.3.1, k.3.1), λ m e t. both_fit _ _ t (rw e (both_fit _ _ f u)))
+        rw (h.5, h.3, i.5, i.3.0, j.5, j.3, k.5, k.3.0, k.4.1, k.4.0, append-nil) (refl, λ b. (omega arith, b, i.3.1, k.3.1), λ m e t. and_from _ _ t (rw e (and_from _ _ f u)))
 
 by_choice : (c : Ex) (d : ℕ) (i : Option Below) → GoodBelow d i → (b : Bool) → Good (ChoiceAt c d) (choice_by i c b)
 unfolding ChoiceAt
 by_choice c d i g true = good_opened (ChoiceAt c) (fixed Question) (choice c) (c, [], (append-nil (spell_ex c), λ b. binds_more 7 8 c (omega arith) b, λ m e t. t))
-    (deep_sign (ChoiceAt c 0) Question (Choice c nothing nothing) (Name 0 [] ∷ Fixed Colon ∷ Name 0 [] ∷ []) (refl, λ b. (omega arith, b, tt, tt), λ m e t. both_fit _ _ t (rw e refl))) (good_choice c) d i g
+    (deep_sign (ChoiceAt c 0) Question (Choice c nothing nothing) (Name 0 [] ∷ Fixed Colon ∷ Name 0 [] ∷ []) (refl, λ b. (omega arith, b, tt, tt), λ m e t. and_from _ _ t (rw e refl))) (good_choice c) d i g
 by_choice c d i g false = good_sub _ (ChoiceAt c d) _ (λ n p ts h. rw (h.1, h.0, append-nil) (refl, λ b. binds_more 7 8 c (omega arith) b, λ m e t. t)) (good_pure c)
 
 pub good_expr : (d : ℕ) (i : Option Below) → GoodBelow d i → Good (ExAt 8 d) (expr i)

@@ -66,9 +66,6 @@ good_link_sign k s e = good_sub (Taken (link_of k)) (LinkSign k) _ (λ w a ts h.
 abbrev pub Of : {A : Type 0} → (A → Toks) → (A → Type 0) → (A → ℕ → Bool) → Lang A
 Of spell right fit n a ts = (ts ≡ spell a) × right a × (fit a n ≡ true)
 
-pub both_fit : (a b : Bool) → a ≡ true → b ≡ true → (a && b) ≡ true
-both_fit a b h k = rw (h, k) refl
-
 abbrev pub ExAt : ℕ → ℕ → Lang Ex
 ExAt l d = Of spell_ex (Binds l) (λ e n. within e d n)
 

@@ -1,6 +1,7 @@
 -- What is within the levels up to a token is within them up to each earlier one.
 use Rattle.std.proofs.Common.{◌≡◌, ℕ, zero, suc, ◌-◌, ◌≤◌, Bool, true, false, length, refl, arith}
 use Rattle.std.specs.Prelude.{◌&&◌}
+use Rattle.std.proofs.lemmas.Bool.{and_parts}
 use Rattle.script_grammar.specs.Spelling.{spell_ex, spell_prop, spell_suffix, spell_stmt, spell_item, spell_params, spell_reducer}
 use Rattle.script_grammar.specs.Trees.{Ex, Literal, Var, Round, ListOf, Object, Member, Unary, Chain, Choice, Elems, NoElems, LastElem, ThenElem, Prop, Keyed, Quoted, Short, Props, NoProps, LastProp, ThenProp, Suffix, Dot, Index, Suffixes, NoSuffixes, ThenSuffix, Links, NoLinks, ThenLink, Stmt, Block, Empty, IfThen, IfElse, Return, ReturnOf, Throw, ThrowError, Delete, Set, Do, Item, Const, Let, LetBe, Plain, Items, NoItems, ThenItem, Reducer, Function, Program, NoReducers, ThenReducer}
 use Rattle.script_grammar.specs.Rules.{opens, inner_levels, within, within_elems, within_prop, within_props, within_suffix, within_suffixes, within_links, within_stmt, within_item, within_items, within_reducer, within_program}
@@ -11,13 +12,8 @@ Mono f = (m n : ℕ) → m ≤ n → f n ≡ true → f m ≡ true
 mono_true : Mono (λ n. true)
 mono_true m n l h = refl
 
-both_true : (a b : Bool) → (a && b) ≡ true → (a ≡ true) × (b ≡ true)
-both_true true true h = (refl, refl)
-both_true true false h = absurd cc
-both_true false b h = absurd cc
-
 mono_and : (f g : ℕ → Bool) → Mono f → Mono g → Mono (λ n. f n && g n)
-mono_and f g a b m n l h = let p = both_true (f n) (g n) h in rw (a m n l p.0, b m n l p.1) refl
+mono_and f g a b m n l h = let p = and_parts (f n) (g n) h in rw (a m n l p.0, b m n l p.1) refl
 
 mono_after : (f : ℕ → Bool) (k : ℕ) → Mono f → Mono (λ n. f (n - k))
 mono_after f k a m n l h = a (m - k) (n - k) (omega (arith, l)) h

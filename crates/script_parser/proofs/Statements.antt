@@ -1,6 +1,7 @@
 -- Each rule for statements, items and reducers is good for the language of its spelling.
 use Rattle.std.proofs.Common.{◌≡◌, ℕ, zero, suc, ◌-◌, ◌<◌, Bool, true, false, List, [], ◌∷◌, ◌++◌, length, Option, Some, None, refl, subst, ◌∙◌, append_assoc, append-nil, arith}
 use Rattle.std.specs.Prelude.{if◌then◌else◌}
+use Rattle.std.proofs.lemmas.Bool.{and_from}
 use Rattle.script_text.specs.declared.sign.Sign.TheVariants.{OpenRound, CloseRound, OpenBrace, CloseBrace, Comma, Semicolon, Dot as Point, Assign}
 use Rattle.script_text.specs.declared.word.Reserved.{Reserved}
 use Rattle.script_text.specs.declared.word.Reserved.TheVariants as kept
@@ -13,7 +14,7 @@ use Rattle.script_parser.specs.Tests.{fixed, name_of, sees, sees_word, StmtForm,
 use Rattle.script_parser.specs.Parser.{Below, expect, keyword, expr, post, items, block, inner_by, inner, else_by, may_else, conditional, ended, return_by, thrown_error, throw_by, deleted, assign_by, may_assign, stmt_by, stmt, let_by, item_by, item, below, params_by, params, reducer_body, reducer, reducers, program}
 use Rattle.script_parser.proofs.Good.{Lang, Example, Good, GoodAt, Seq, Nothing, End, Begun, Consumes, good_pure, good_fail, good_look, good_look_at, good_at, good_begun, good_sub, good_sub_at, good_bind, good_finish}
 use Rattle.script_parser.proofs.Lists.{good_many, many_is}
-use Rattle.script_parser.proofs.Languages.{Just, JustWord, NameAt, good_sign, good_word, good_name, Of, both_fit, ExAt, StmtAt, ItemAt, Goods, GoodBelow, good_opened, deep_sign}
+use Rattle.script_parser.proofs.Languages.{Just, JustWord, NameAt, good_sign, good_word, good_name, Of, ExAt, StmtAt, ItemAt, Goods, GoodBelow, good_opened, deep_sign}
 use Rattle.script_parser.proofs.Expressions.{nothing, consumes_ex, some_ex, append_some, good_post, good_unary, good_expr}
 
 abbrev pub ItemsAt : ℕ → Lang Items
@@ -64,7 +65,7 @@ some_item (Plain s) = some_stmt s
 -- ---- blocks
 good_items : (d : ℕ) (b : Below) → Goods d b → Good (ItemsAt d) (items b)
 good_items d b g = good_many (ItemAt d) (ItemsAt d) in_block b.item NoItems ThenItem g.item
-    (λ n. (refl, tt, refl)) (λ n a c x y h k. (rw (h.0, k.0) refl, (h.1, k.1), both_fit _ _ h.2 (rw h.0 at k.2))) (λ n a x h. rw h.0 (some_item a))
+    (λ n. (refl, tt, refl)) (λ n a c x y h k. (rw (h.0, k.0) refl, (h.1, k.1), and_from _ _ h.2 (rw h.0 at k.2))) (λ n a x h. rw h.0 (some_item a))
 
 abbrev BlockAt : ℕ → Lang Stmt
 BlockAt d n s ts = (is : Items) × (s ≡ Block is) × (ts ≡ spell_stmt (Block is)) × RightItems is × (within_items is d (n - 1) ≡ true)
@@ -116,13 +117,13 @@ ElseAt d e s n whole ts = (Kept kept.If ∷ Fixed OpenRound ∷ (spell_ex e ++ F
     × ((m : ℕ) → m - 1 - 1 - length (spell_ex e) - 1 - length (spell_stmt s) ≡ n → within e d (m - 1 - 1) ≡ true → within_stmt s (inner_levels s d) (m - 1 - 1 - length (spell_ex e) - 1) ≡ true → within_stmt whole (suc d) m ≡ true)
 
 no_else : (d : ℕ) (e : Ex) (s : Stmt) → Good (ElseAt d e s) (pure (IfThen e s))
-no_else d e s = good_sub _ (ElseAt d e s) _ (λ n whole ts h. rw (h.1, h.0, append-nil) (refl, λ b r. (b, r), λ m q f k. both_fit _ _ f k)) (good_pure (IfThen e s))
+no_else d e s = good_sub _ (ElseAt d e s) _ (λ n whole ts h. rw (h.1, h.0, append-nil) (refl, λ b r. (b, r), λ m q f k. and_from _ _ f k)) (good_pure (IfThen e s))
 
 has_else : (d : ℕ) (b : Below) → Goods d b → (e : Ex) (s : Stmt) → is_open s ≡ false → Good (ElseAt d e s) (else_by b e s true)
 has_else d b g e s o = good_sub _ (ElseAt d e s) _ spelled (good_bind (JustWord kept.Else) _ (keyword kept.Else) _ (good_word kept.Else) (λ _. good_bind (InnerAt d) _ (inner b) _ (good_inner d b g) (λ t. good_pure (IfElse e s t))))
   where
     spelled : (n : ℕ) (whole : Stmt) (ts : Toks) → Seq (JustWord kept.Else) (λ _. Seq (InnerAt d) (λ t. Nothing (IfElse e s t))) n whole ts → ElseAt d e s n whole ts
-    spelled n whole ts h = let i = h.4 in let u = rw h.3 at i.3.2 in rw (h.5, h.3, i.5, i.3.0, i.4.1, i.4.0, append-nil) (refl, λ b r. (b, o, r, i.3.1), λ m q f k. both_fit _ _ f (both_fit _ _ k (rw q u)))
+    spelled n whole ts h = let i = h.4 in let u = rw h.3 at i.3.2 in rw (h.5, h.3, i.5, i.3.0, i.4.1, i.4.0, append-nil) (refl, λ b r. (b, o, r, i.3.1), λ m q f k. and_from _ _ f (and_from _ _ k (rw q u)))
 
 good_else : (d : ℕ) (b : Below) → Goods d b → (e : Ex) (s : Stmt) (c : Option Tok) → Good (ElseAt d e s) (else_by b e s (may_else s c))
 good_else d b g e s c = go (is_open s) refl
@@ -195,7 +196,7 @@ good_deleted d e = go (is_member e) refl
     go false x = good_fail (DeletedAt d e) (
       Delete (Member e (Dot (Named 0 [])) NoSuffixes),
       Fixed Point ∷ Name 0 [] ∷ Fixed Semicolon ∷ [],
-      (rw (append_assoc (spell_ex e) (Fixed Point ∷ Name 0 [] ∷ []) (Fixed Semicolon ∷ [])) refl, λ b. (refl, (atom_of e x b, b, tt, tt)), λ m q f. both_fit _ _ f refl),
+      (rw (append_assoc (spell_ex e) (Fixed Point ∷ Name 0 [] ∷ []) (Fixed Semicolon ∷ [])) refl, λ b. (refl, (atom_of e x b, b, tt, tt)), λ m q f. and_from _ _ f refl),
     )
 
 good_delete : (d : ℕ) (i : Option Below) → GoodBelow d i → Good (After kept.Delete d) (post i >>= λ e. deleted e)
@@ -213,7 +214,7 @@ assigned : (d : ℕ) (i : Option Below) → GoodBelow d i → (e : Ex) → is_ta
 assigned d i g e t = good_sub _ (AssignAt d e) _ spelled (good_bind (Just Assign) _ (expect Assign) _ (good_sign Assign) (λ _. good_bind (ExAt 8 d) _ (expr i) _ (good_expr d i g) (λ v. good_ended (Set e v))))
   where
     spelled : (n : ℕ) (s : Stmt) (ts : Toks) → Seq (Just Assign) (λ _. Seq (ExAt 8 d) (λ v. Ends (Set e v))) n s ts → AssignAt d e n s ts
-    spelled n s ts h = let j = h.4 in let u = rw h.3 at j.3.2 in rw (h.5, h.3, j.5, j.3.0, j.4.1, j.4.0) (refl, λ b o. (t, o, b, j.3.1), λ m q f. both_fit _ _ f (rw q u))
+    spelled n s ts h = let j = h.4 in let u = rw h.3 at j.3.2 in rw (h.5, h.3, j.5, j.3.0, j.4.1, j.4.0) (refl, λ b o. (t, o, b, j.3.1), λ m q f. and_from _ _ f (rw q u))
 
 good_assign : (d : ℕ) (i : Option Below) → GoodBelow d i → (e : Ex) (c : Option Tok) → Good (AssignAt d e) (assign_by i e (may_assign e c))
 good_assign d i g e c = go (is_target e) refl
@@ -373,7 +374,7 @@ some_reducer (Function at bytes ps is) = omega arith
 
 good_reducers : (d : ℕ) (i : Option Below) → GoodBelow d i → Good (ProgramAt d) (reducers i)
 good_reducers d i g = good_many (ReducerAt d) (ProgramAt d) (λ _. true) (reducer i) NoReducers ThenReducer (good_reducer d i g)
-    (λ n. (refl, tt, refl)) (λ n a c x y h k. (rw (h.0, k.0) refl, (h.1, k.1), both_fit _ _ h.2 (rw h.0 at k.2))) (λ n a x h. rw h.0 (some_reducer a))
+    (λ n. (refl, tt, refl)) (λ n a c x y h k. (rw (h.0, k.0) refl, (h.1, k.1), and_from _ _ h.2 (rw h.0 at k.2))) (λ n a x h. rw h.0 (some_reducer a))
 
 pub good_program : (d : ℕ) → Good (ProgramAt d) (program d)
 unfolding program

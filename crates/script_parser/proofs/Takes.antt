@@ -1,6 +1,7 @@
 -- A parser reads what is spelled, whatever may follow, unless a token opens a level too many.
 use Rattle.std.proofs.Common.{◌≡◌, ℕ, suc, ◌+◌, ◌-◌, Bool, true, false, [], ◌∷◌, ◌++◌, length, Option, Some, Ok, Err, refl, sym, ap, subst, ◌∙◌, append_assoc, arith, ◌⊎◌, inl, inr, length-append}
 use Rattle.std.specs.Prelude.{◌&&◌}
+use Rattle.std.proofs.lemmas.Bool.{and_from}
 use Rattle.script_text.specs.declared.sign.Sign.{Sign}
 use Rattle.script_text.specs.declared.sign.Sign.TheVariants.{Comma}
 use Rattle.script_text.specs.declared.word.Reserved.{Reserved}
@@ -35,11 +36,8 @@ and_false : (b : Bool) → (b && false) ≡ false
 and_false true = refl
 and_false false = refl
 
-both_true : (b c : Bool) → b ≡ true → c ≡ true → (b && c) ≡ true
-both_true b c h k = rw (h, k) refl
-
 pub takes_bind : {A B : Type 0} (c e : ℕ → Bool) (p : Parser A) (f : A → Parser B) (x y : Toks) (a : A) (z : B) (rest : Toks) → Takes c p x a (y ++ rest) → Takes e (f a) y z rest → Takes (λ n. c n && e (n - length x)) (p >>= f) (x ++ y) z rest
-takes_bind c e p f x y a z rest (inl h) (inl k) = inl (rw (append_assoc x y rest, h.0) k.0, λ n. both_true (c n) (e (n - length x)) (h.1 n) (k.1 (n - length x)))
+takes_bind c e p f x y a z rest (inl h) (inl k) = inl (rw (append_assoc x y rest, h.0) k.0, λ n. and_from (c n) (e (n - length x)) (h.1 n) (k.1 (n - length x)))
 takes_bind c e p f x y a z rest (inl h) (inr k) =
     let size : length x + k.0 + length k.1 ≡ length ((x ++ y) ++ rest) = omega (arith, k.3, length-append (x ++ y) rest, length-append x y, length-append y rest) in
     let place : suc (length x + k.0) - length x ≡ suc k.0 = omega arith in

@@ -3,13 +3,13 @@ use Rattle.std.proofs.Common.{◌≡◌, ℕ, ◌≤◌, List, [], ◌∷◌, �
 use Rattle.std.specs.Prelude.{IsTrue}
 use Rattle.std.specs.Int.{w32, to_be_bytes}
 use Rattle.std.proofs.lemmas.List.{length-map}
+use Rattle.std.proofs.lemmas.Bool.{and_from}
 use Rattle.value_model.specs.declared.key.Key.{Key}
 use Rattle.value_model.specs.declared.words.Kind.{Kind}
 use Rattle.value_model.specs.Places.{ascends_at}
 use Rattle.value_model.specs.Plain.{Plain, node, entries, list_of, weights}
 use Rattle.value_model.specs.Steps.{list_of_entries}
 use Rattle.value_model.specs.Well.{all_fit, well, all_well}
-use Rattle.byte_spelling.specs.Fields.{both_true}
 use Rattle.byte_spelling.specs.Spelling.{kind_byte, value_bytes, entries_bytes}
 use Rattle.byte_spelling.specs.Values.{count_le_weights}
 
@@ -36,4 +36,4 @@ module _ {X : Type 0} (f : X → Key × Plain) (kind : Kind) (xs : List X) where
   well_node shown v v-is shown-is ascends fit more =
       let inside : all_well (entries (map f xs)) ≡ true = subst (λ (ys : List X). all_well (entries (map f ys)) ≡ true) shown-is more in
       let order : ascends_at kind (list_of (entries (map f xs))) ≡ true = rw (list_of_entries (map f xs)) ascends in
-      subst (λ (w : Plain). well w ≡ true) v-is (both_true _ _ (both_true _ _ order fit) inside)
+      subst (λ (w : Plain). well w ≡ true) v-is (and_from _ _ (and_from _ _ order fit) inside)

@@ -17,15 +17,8 @@ use Rattle.serde_json.specs.Read.{max_depth, read, number_of, of_json, of_items,
 use Rattle.serde_json.specs.Written.{number_text, outline, items_outline, members_outline, compact_text}
 use Rattle.serde_json.proofs.Numbers.{number_of-decimal, number_of-negative}
 use Rattle.serde_json.proofs.Texts.{print-outline}
+use Rattle.value_model.specs.Search.{left_true, right_true}
 use Rattle.value_json.specs.Whole.{is_small, is_whole, items_whole, members_whole, all_above, is_ascending}
-
-left : (a b : Bool) → (a && b) ≡ true → a ≡ true
-left true b h = refl
-left false b h = h
-
-right : (a b : Bool) → (a && b) ≡ true → b ≡ true
-right true b h = h
-right false b h = absurd (cc)
 
 -- ---- numbers
 number_read : (n : Num) → is_small n ≡ true → number_of (number_text n) ≡ Some n
@@ -47,15 +40,15 @@ mutual
   numbers (number n) h = is_number n h
   numbers (string s) h = tt
   numbers (array ds) h = items_numbers ds h
-  numbers (object ms) h = members_numbers ms (right _ _ h)
+  numbers (object ms) h = members_numbers ms (right_true _ _ h)
 
   items_numbers : (ds : Items) → items_whole ds ≡ true → tree.ItemsHaveNumbers (items_outline ds)
   items_numbers no_items h = tt
-  items_numbers (item d ds) h = (numbers d (left _ _ h), items_numbers ds (right _ _ h))
+  items_numbers (item d ds) h = (numbers d (left_true _ _ h), items_numbers ds (right_true _ _ h))
 
   members_numbers : (ms : Members) → members_whole ms ≡ true → tree.MembersHaveNumbers (members_outline ms)
   members_numbers no_members h = tt
-  members_numbers (member k d ms) h = (numbers d (left _ _ h), members_numbers ms (right _ _ h))
+  members_numbers (member k d ms) h = (numbers d (left_true _ _ h), members_numbers ms (right_true _ _ h))
 
 -- ---- levels
 mutual
@@ -90,15 +83,15 @@ less Equal h = absurd (cc)
 less Greater h = absurd (cc)
 
 above_next : (l : List ℕ) (done rest : Members) (k : List ℕ) (d : Data) → all_above l (after done (member k d rest)) ≡ true → slice_cmp nat_cmp l k ≡ Less
-above_next l no_members rest k d h = less _ (left _ _ h)
-above_next l (member m e done) rest k d h = above_next l done rest k d (right _ _ h)
+above_next l no_members rest k d h = less _ (left_true _ _ h)
+above_next l (member m e done) rest k d h = above_next l done rest k d (right_true _ _ h)
 
 put_next : (done rest : Members) (k : List ℕ) (d : Data) → is_ascending (after done (member k d rest)) ≡ true → after (put k d done) rest ≡ after done (member k d rest)
 put_next no_members rest k d h = refl
 put_next (member l e done) rest k d h =
-    let up = above_next l done rest k d (left _ _ h) in
+    let up = above_next l done rest k d (left_true _ _ h) in
     let down : slice_cmp nat_cmp k l ≡ Greater = nat_list_cmp_total.antisymm k l ∙ ap ordering_reverse up in
-    rw down (ap (member l e) (put_next done rest k d (right _ _ h)))
+    rw down (ap (member l e) (put_next done rest k d (right_true _ _ h)))
 
 mutual
   reads : (d : Data) → is_whole d ≡ true → of_json (outline d) ≡ Some d
@@ -107,20 +100,20 @@ mutual
   reads (number n) h = ap (option_map number) (number_read n h)
   reads (string s) h = refl
   reads (array ds) h = ap (option_map array) (items_read ds h)
-  reads (object ms) h = ap (option_map object) (members_read ms no_members (right _ _ h) (left _ _ h))
+  reads (object ms) h = ap (option_map object) (members_read ms no_members (right_true _ _ h) (left_true _ _ h))
 
   items_read : (ds : Items) → items_whole ds ≡ true → of_items (items_outline ds) ≡ Some ds
   items_read no_items h = refl
   items_read (item d ds) h =
-      ap (option_and_then (λ e. option_map (item e) (of_items (items_outline ds)))) (reads d (left _ _ h))
-      ∙ ap (option_map (item d)) (items_read ds (right _ _ h))
+      ap (option_and_then (λ e. option_map (item e) (of_items (items_outline ds)))) (reads d (left_true _ _ h))
+      ∙ ap (option_map (item d)) (items_read ds (right_true _ _ h))
 
   members_read : (ms found : Members) → members_whole ms ≡ true → is_ascending (after found ms) ≡ true → of_members (members_outline ms) found ≡ Some (after found ms)
   members_read no_members found h up = ap Some (sym (after_none found))
   members_read (member k d ms) found h up =
       let next = put_next found ms k d up in
-      ap (option_and_then (λ e. of_members (members_outline ms) (put k e found))) (reads d (left _ _ h))
-      ∙ members_read ms (put k d found) (right _ _ h) (ap is_ascending next ∙ up)
+      ap (option_and_then (λ e. of_members (members_outline ms) (put k e found))) (reads d (left_true _ _ h))
+      ∙ members_read ms (put k d found) (right_true _ _ h) (ap is_ascending next ∙ up)
       ∙ ap Some next
 
 -- the data of a text whose tokens are read as JSON

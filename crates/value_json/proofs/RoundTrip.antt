@@ -18,19 +18,12 @@ use Rattle.value_model.specs.Plain as plain
 use Rattle.value_model.specs.Plain.{Plain, Entries, prim, node, none, entry, entries, list_of, deepest, weight}
 use Rattle.value_model.specs.Steps.{entries-list_of}
 use Rattle.value_model.specs.Well.{all_fit, fits}
+use Rattle.value_model.specs.Search.{left_true, right_true}
 use Rattle.value_text.specs.Answers.{and_then, result_map}
 use Rattle.value_text.specs.Printing.{key_data, is_tag, is_tagged, object_data, keys_data, val_data, fields_data, elements_data, pairs_data}
 use Rattle.value_text.specs.Reading.{Table, safe_of, key_from, text_from, is_primitive, are_primitive, new_key_from, set_members, with_pair, walked, elements, fields, map_pairs, by_tag, limited, limited_by, val_from}
 use Rattle.value_text.specs.declared.why.JsonWhy.{JsonWhy}
 use Rattle.value_json.specs.Sound.{is_sound_key, is_sound, all_sound}
-
-left : (a b : Bool) → (a && b) ≡ true → a ≡ true
-left true b h = refl
-left false b h = h
-
-right : (a b : Bool) → (a && b) ≡ true → b ≡ true
-right true b h = h
-right false b h = absurd (cc)
 
 -- ---- keys
 safe_is : (b : Bool) (y : ℤ) → is_some (cond b (Some y) None) ≡ true → cond b (Some y) None ≡ Some y
@@ -78,22 +71,22 @@ less Equal h = absurd (cc)
 less Greater h = absurd (cc)
 
 above_last : (j : Key) (found : Table) (k : Key) (v : Plain) (rest : Table) → below_all key_cmp j (found ++ (k, v) ∷ rest) ≡ true → key_cmp j k ≡ Less
-above_last j [] k v rest h = less _ (left _ _ h)
-above_last j (e ∷ found) k v rest h = above_last j found k v rest (right _ _ h)
+above_last j [] k v rest h = less _ (left_true _ _ h)
+above_last j (e ∷ found) k v rest h = above_last j found k v rest (right_true _ _ h)
 
 pub find_last : (found : Table) (k : Key) (v : Plain) (rest : Table) → is_sorted key_cmp (found ++ (k, v) ∷ rest) ≡ true → find key_cmp k found ≡ None
 find_last [] k v rest h = refl
 find_last (e ∷ found) k v rest h =
-    let up = above_last e.0 found k v rest (left _ _ h) in
+    let up = above_last e.0 found k v rest (left_true _ _ h) in
     let down : key_cmp k e.0 ≡ Greater = key_total.antisymm k e.0 ∙ ap ordering_reverse up in
-    rw down (find_last found k v rest (right _ _ h))
+    rw down (find_last found k v rest (right_true _ _ h))
 
 pub put_last : (found : Table) (k : Key) (v : Plain) (rest : Table) → is_sorted key_cmp (found ++ (k, v) ∷ rest) ≡ true → put key_cmp k v found ≡ found ++ (k, v) ∷ []
 put_last [] k v rest h = refl
 put_last (e ∷ found) k v rest h =
-    let up = above_last e.0 found k v rest (left _ _ h) in
+    let up = above_last e.0 found k v rest (left_true _ _ h) in
     let down : key_cmp k e.0 ≡ Greater = key_total.antisymm k e.0 ∙ ap ordering_reverse up in
-    rw down (ap (λ (es : Table). e ∷ es) (put_last found k v rest (right _ _ h)))
+    rw down (ap (λ (es : Table). e ∷ es) (put_last found k v rest (right_true _ _ h)))
 
 regroup : (found : Table) (e : Key × Plain) (rest : Table) → (found ++ e ∷ []) ++ rest ≡ found ++ e ∷ rest
 regroup [] e rest = refl
@@ -121,13 +114,13 @@ same_member k (node kind.Set es) h = absurd (cc)
 members_back : (es : Entries) (found : Table) → all_fit kind.Set es ≡ true → all_sound es ≡ true → is_sorted key_cmp (found ++ list_of es) ≡ true → set_members (keys_data es) found ≡ Ok (found ++ list_of es)
 members_back none found f s o = ap Ok (sym (whole found))
 members_back (entry k v es) found f s o =
-    let here : v ≡ prim k = same_member k v (left _ _ f) in
-    let sound = left _ _ (left _ _ s) in
+    let here : v ≡ prim k = same_member k v (left_true _ _ f) in
+    let sound = left_true _ _ (left_true _ _ s) in
     let put_here : put key_cmp k (prim k) found ≡ found ++ (k, v) ∷ [] = ap (λ (w : Plain). put key_cmp k w found) (sym here) ∙ put_last found k v (list_of es) o in
     let group = regroup found (k, v) (list_of es) in
     ap (and_then (λ (j : Key). set_members (keys_data es) (put key_cmp j (prim j) found))) (fresh k found sound (find_last found k v (list_of es) o))
     ∙ ap (set_members (keys_data es)) put_here
-    ∙ members_back es (found ++ (k, v) ∷ []) (right _ _ f) (right _ _ s) (ap (is_sorted key_cmp) group ∙ o)
+    ∙ members_back es (found ++ (k, v) ∷ []) (right_true _ _ f) (right_true _ _ s) (ap (is_sorted key_cmp) group ∙ o)
     ∙ ap Ok group
 
 -- ---- tags
@@ -154,11 +147,11 @@ object_back (entry k v (entry l w es)) h = ap (result_map (node kind.Obj)) h
 mutual
   pub walked_back : (v : Plain) → is_sound v ≡ true → walked (val_data v) ≡ Ok v
   walked_back (prim k) h = prim_walked k ∙ ap (result_map prim) (key_back k h)
-  walked_back (node kind.Obj es) h = object_back es (fields_back es (right _ _ (left _ _ h)) (right _ _ h))
-  walked_back (node kind.List es) h = ap (result_map (node kind.List)) (elements_back es (left (all_fit kind.List es) (all_sound es) h) (right (all_fit kind.List es) (all_sound es) h))
-  walked_back (node kind.Map es) h = ap (result_map (λ (t : Table). node kind.Map (entries t))) (pairs_back es [] (right _ _ h) (left _ _ (left _ _ h))) ∙ ap (λ (ds : Entries). Ok (node kind.Map ds)) (entries-list_of es)
+  walked_back (node kind.Obj es) h = object_back es (fields_back es (right_true _ _ (left_true _ _ h)) (right_true _ _ h))
+  walked_back (node kind.List es) h = ap (result_map (node kind.List)) (elements_back es (left_true (all_fit kind.List es) (all_sound es) h) (right_true (all_fit kind.List es) (all_sound es) h))
+  walked_back (node kind.Map es) h = ap (result_map (λ (t : Table). node kind.Map (entries t))) (pairs_back es [] (right_true _ _ h) (left_true _ _ (left_true _ _ h))) ∙ ap (λ (ds : Entries). Ok (node kind.Map ds)) (entries-list_of es)
   walked_back (node kind.Set es) h =
-      rw (primitives es) (ap (result_map (λ (t : Table). node kind.Set (entries t))) (members_back es [] (right _ _ (left _ _ h)) (right _ _ h) (left _ _ (left _ _ h))) ∙ ap (λ (ds : Entries). Ok (node kind.Set ds)) (entries-list_of es))
+      rw (primitives es) (ap (result_map (λ (t : Table). node kind.Set (entries t))) (members_back es [] (right_true _ _ (left_true _ _ h)) (right_true _ _ h) (left_true _ _ (left_true _ _ h))) ∙ ap (λ (ds : Entries). Ok (node kind.Set ds)) (entries-list_of es))
 
   fields_back : (es : Entries) → all_fit kind.Obj es ≡ true → all_sound es ≡ true → fields (fields_data es) ≡ Ok es
   fields_back none f s = refl
@@ -166,17 +159,17 @@ mutual
   fields_back (entry (key.Bool b) v es) f s = absurd (cc)
   fields_back (entry (key.Int z) v es) f s = absurd (cc)
   fields_back (entry (key.Text t) v es) f s =
-      let both : (is_sound_key (key.Text t) && is_sound v) ≡ true = left _ _ s in
-      let named = text_back t (left _ _ both) in
-      let value = walked_back v (right _ _ both) in
-      let rest = fields_back es f (right _ _ s) in
+      let both : (is_sound_key (key.Text t) && is_sound v) ≡ true = left_true _ _ s in
+      let named = text_back t (left_true _ _ both) in
+      let value = walked_back v (right_true _ _ both) in
+      let rest = fields_back es f (right_true _ _ s) in
       rw (named, value, rest)
 
   elements_back : (es : Entries) → all_fit kind.List es ≡ true → all_sound es ≡ true → elements (elements_data es) ≡ Ok es
   elements_back none f s = refl
   elements_back (entry key.Null v es) f s =
-      let value = walked_back v (left (is_sound v) (all_sound es) s) in
-      let rest = elements_back es f (right (is_sound v) (all_sound es) s) in
+      let value = walked_back v (left_true (is_sound v) (all_sound es) s) in
+      let rest = elements_back es f (right_true (is_sound v) (all_sound es) s) in
       rw (value, rest)
   elements_back (entry (key.Bool b) v es) f s = absurd (cc)
   elements_back (entry (key.Int z) v es) f s = absurd (cc)
@@ -185,13 +178,13 @@ mutual
   pairs_back : (es : Entries) (found : Table) → all_sound es ≡ true → is_sorted key_cmp (found ++ list_of es) ≡ true → map_pairs (pairs_data es) found ≡ Ok (found ++ list_of es)
   pairs_back none found s o = ap Ok (sym (whole found))
   pairs_back (entry k v es) found s o =
-      let value = walked_back v (right _ _ (left _ _ s)) in
+      let value = walked_back v (right_true _ _ (left_true _ _ s)) in
       let group = regroup found (k, v) (list_of es) in
       let one : with_pair (key_data k) (walked (val_data v)) found ≡ Ok (found ++ (k, v) ∷ []) =
       ap (λ (w : Result Plain JsonWhy). with_pair (key_data k) w found) value
-      ∙ ap (and_then (λ (j : Key). Ok (put key_cmp j v found))) (fresh k found (left _ _ (left _ _ s)) (find_last found k v (list_of es) o))
+      ∙ ap (and_then (λ (j : Key). Ok (put key_cmp j v found))) (fresh k found (left_true _ _ (left_true _ _ s)) (find_last found k v (list_of es) o))
       ∙ ap Ok (put_last found k v (list_of es) o) in
-      ap (and_then (map_pairs (pairs_data es))) one ∙ pairs_back es (found ++ (k, v) ∷ []) (right _ _ s) (ap (is_sorted key_cmp) group ∙ o) ∙ ap Ok group
+      ap (and_then (map_pairs (pairs_data es))) one ∙ pairs_back es (found ++ (k, v) ∷ []) (right_true _ _ s) (ap (is_sorted key_cmp) group ∙ o) ∙ ap Ok group
 
 -- ---- limits
 no_limit : (o : Option Limit) (v : Plain) → o ≡ None → limited_by v o ≡ Ok v

@@ -2,6 +2,7 @@
 use Rattle.std.proofs.Common.{◌≡◌, ℕ, suc, ◌+◌, ◌<◌, ◌≤◌, List, [], ◌∷◌, ◌++◌, map, length, drop, get_or, add-one, drop-cons, Bool, true, false, ◌&&◌, cond, Option, Some, Result, Ok, Err, refl, ap, sym, ◌∙◌, subst, Ordering, Less, Equal, Greater, String, Global, string_bytes, string_cmp, nat_cmp, nat_lt, ◌^◌, arith}
 use Rattle.std.specs.Cmp.Lexicographic.{slice_cmp}
 use Rattle.std.proofs.lemmas.Grind.{common_steps}
+use Rattle.std.proofs.lemmas.Bool.{and_from}
 use Rattle.std.specs.Prelude.{is_some}
 use Rattle.std.specs.BTreeMap.{insert_entry, is_at}
 use Rattle.std.specs.Map.{lookup, keys_of}
@@ -66,27 +67,23 @@ insert_marks k u (e ∷ es) =
       | Greater ↦ λ h. ap (λ (ds : List (Key × Plain)). of_mark e ∷ ds) later
     ] refl
 
-both : (a b : Bool) → a ≡ true → b ≡ true → (a && b) ≡ true
-both true b p q = q
-both false b p q = absurd (cc)
-
 below_pairs : (k : Ranked) (es : List (Ranked × Plain)) → AllByRecursion (λ y. rank_cmp k y ≡ Less) (keys_of es) → below_all key_cmp k.key (of_pairs es) ≡ true
 below_pairs k [] h = refl
-below_pairs k (e ∷ es) h = both _ _ (ap is_lt h.0) (below_pairs k es h.1)
+below_pairs k (e ∷ es) h = and_from _ _ (ap is_lt h.0) (below_pairs k es h.1)
 
 pub pairs_sorted : (es : List (Ranked × Plain)) → IsStrictlySortedBy rank_cmp (keys_of es) → is_sorted key_cmp (of_pairs es) ≡ true
 unfolding IsStrictlySortedBy
 pairs_sorted [] h = refl
-pairs_sorted (e ∷ es) h = both _ _ (below_pairs e.0 es h.0) (pairs_sorted es h.1)
+pairs_sorted (e ∷ es) h = and_from _ _ (below_pairs e.0 es h.0) (pairs_sorted es h.1)
 
 below_marks : (k : Ranked) (es : List (Ranked × Unit {0})) → AllByRecursion (λ y. rank_cmp k y ≡ Less) (keys_of es) → below_all key_cmp k.key (of_marks es) ≡ true
 below_marks k [] h = refl
-below_marks k (e ∷ es) h = both _ _ (ap is_lt h.0) (below_marks k es h.1)
+below_marks k (e ∷ es) h = and_from _ _ (ap is_lt h.0) (below_marks k es h.1)
 
 pub marks_sorted : (es : List (Ranked × Unit {0})) → IsStrictlySortedBy rank_cmp (keys_of es) → is_sorted key_cmp (of_marks es) ≡ true
 unfolding IsStrictlySortedBy
 marks_sorted [] h = refl
-marks_sorted (e ∷ es) h = both _ _ (below_marks e.0 es h.0) (marks_sorted es h.1)
+marks_sorted (e ∷ es) h = and_from _ _ (below_marks e.0 es h.0) (marks_sorted es h.1)
 
 -- ---- entries that are read from the front
 abbrev pub joined : List (Key × Plain) → Entries → Entries
@@ -233,12 +230,12 @@ rising_keys (f ∷ fs) = rw (above_keys f.key fs, rising_keys fs)
 
 above_names : (name : String Global) (es : List NameValue) → AllByRecursion (λ y. string_cmp name y ≡ Less) (keys_of es) → above (string_bytes name) (names es) ≡ true
 above_names name [] h = refl
-above_names name (e ∷ es) h = both _ _ (ap is_lt h.0) (above_names name es h.1)
+above_names name (e ∷ es) h = and_from _ _ (ap is_lt h.0) (above_names name es h.1)
 
 rising_names : (es : List NameValue) → IsStrictlySortedBy string_cmp (keys_of es) → rising (names es) ≡ true
 unfolding IsStrictlySortedBy
 rising_names [] h = refl
-rising_names (e ∷ es) h = both _ _ (above_names e.0 es h.0) (rising_names es h.1)
+rising_names (e ∷ es) h = and_from _ _ (above_names e.0 es h.0) (rising_names es h.1)
 
 nothing_more : (xs : List (List ℕ)) → xs ++ [] ≡ xs
 nothing_more [] = refl

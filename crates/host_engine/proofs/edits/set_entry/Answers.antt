@@ -10,7 +10,7 @@ use Rattle.run_heap.specs.Operations.{put_at}
 use Rattle.draft_core.specs.Seen.{heap}
 use Rattle.host_engine.specs.Drafts.{entries_in, root_in}
 use Rattle.host_engine.specs.Kept.{number_of}
-use Rattle.host_engine.proofs.DraftLaws.{set_does, flat_grown, stops_may}
+use Rattle.host_engine.proofs.DraftLaws.{set_does, stops_may}
 use Rattle.host_engine.proofs.edits.set_entry.Goals as goal
 
 pub returns-in-Ok-clause-edits : goal.returns-in-Ok-clause-edits
@@ -35,7 +35,7 @@ returns-in-Ok-clause-scope c =
     let root = c.root-root.ensures.value ts c.requires.scope.stands in
     let done = subst (λ (of : Rv). Does (Ok c.in-Ok.field-0) h (heap ts t) (put_at c.args.key.now j h of)) root c.in-Ok.ensures.done in
     let edited = set_does ts s t c.args.key.now c.args.number (Ok c.in-Ok.field-0) c.requires.scope c.requires.text done in
-    flat_grown ts s t c.requires.scope c.in-Ok.ensures.stands c.in-Ok.ensures.grows edited.flat
+    record { stands = c.in-Ok.ensures.stands; flat = edited.flat }
 
 pub stopped-requires : goal.stopped-requires
 stopped-requires c =

@@ -4,7 +4,7 @@ use Rattle.run_heap.specs.declared.value.Rv.{Rv}
 use Rattle.run_heap.specs.Answers.{Does}
 use Rattle.run_heap.specs.Operations.{remove_at}
 use Rattle.draft_core.specs.Seen.{heap}
-use Rattle.host_engine.proofs.DraftLaws.{unset_does, flat_grown}
+use Rattle.host_engine.proofs.DraftLaws.{unset_does}
 use Rattle.host_engine.proofs.edits.unset_entry.Goals as goal
 
 pub returns-in-Ok-clause-edits : goal.returns-in-Ok-clause-edits
@@ -27,4 +27,4 @@ returns-in-Ok-clause-scope c =
     let root = c.root-root.ensures.value ts c.requires.scope.stands in
     let done = subst (λ (of : Rv). Does (Ok c.in-Ok.field-0) h (heap ts t) (remove_at c.args.key.now h of)) root c.in-Ok.ensures.done in
     let edited = unset_does ts s t c.args.key.now (Ok c.in-Ok.field-0) c.requires.scope c.requires.text done in
-    flat_grown ts s t c.requires.scope c.in-Ok.ensures.stands c.in-Ok.ensures.grows edited.flat
+    record { stands = c.in-Ok.ensures.stands; flat = edited.flat }

@@ -1,5 +1,6 @@
 use Rattle.std.proofs.Common.{◌≡◌, ◌∙◌, ◌+◌, ◌≤◌, ◌^◌, ◌++◌, ◌∷◌, [], List, length, ap, sym, refl, arith, subst, true, false, length-append}
 use Rattle.std.specs.Prelude.{Bool, ◌||◌, nat_lt}
+use Rattle.std.proofs.lemmas.Bool.{or_parts}
 use Rattle.numbered.specs.Tree.{Tree, own_weight}
 use Rattle.numbered.specs.Store.{used, is_full}
 use Rattle.numbered.specs.Laws.{used_append}
@@ -23,12 +24,9 @@ pub record IsRoom (us : List Tree) (h : Held) : Type 0 where
   pub few : length us ≤ 2097150
   pub light : h.total ≤ 2 ^ 25
 
-neither : (a b : Bool) → (a || b) ≡ false → (a ≡ false) × (b ≡ false)
-neither a b h = elim a as (λ x. (x || b) ≡ false → (x ≡ false) × (b ≡ false)) [ true ↦ λ p. absurd (cc) | false ↦ λ p. (refl, p) ] h
-
 room : (us : List Tree) (h : Held) → h.total ≡ used us + own_weight (tree_of us h) → is_full us (tree_of us h) ≡ false → IsRoom us h
 room us h e r =
-    let both = neither (nat_lt 2097150 (length us)) (nat_lt (2 ^ 25) (used us + own_weight (tree_of us h))) r in
+    let both = or_parts (nat_lt 2097150 (length us)) (nat_lt (2 ^ 25) (used us + own_weight (tree_of us h))) r in
     let a : nat_lt 2097150 (length us) ≡ false = both.0 in
     let b : nat_lt (2 ^ 25) (used us + own_weight (tree_of us h)) ≡ false = both.1 in
     record { few = grind (arith, a); light = grind (arith, b, e) }
