@@ -16,17 +16,20 @@ use crate::forms::{self, has_form};
 use plain_values::{Command, Path, Refusal, Word};
 use serde_json::Value;
 use std::alloc::Global;
+use thiserror::Error;
 use value_json::{JsonFault, JsonWhy, json_of_bytes, patches_of_json, path_of_json};
 
 /// How many bytes a line may have, without its LF.
 const MAX_LINE: usize = 1 << 20;
 
 /// Why a line is no command.
-#[derive(Debug, Drop)]
+#[derive(Debug, Drop, Error)]
 pub enum LineFault {
     /// Memory ran out.
+    #[error("out of memory")]
     Memory,
     /// The line is refused.
+    #[error(transparent)]
     Refused(Refusal),
 }
 

@@ -1,11 +1,16 @@
+ghost use Rattle.std.specs.Prelude.{◌≡◌};
+
 use std::alloc::{AllocError, AllocFailed};
+use thiserror::Error;
 
 /// Why nothing was added.
-#[derive(Debug, Drop)]
+#[derive(Debug, Drop, Error)]
 pub enum StoreFault {
     /// A number would be 2^21, or the own weights of all nodes would pass 2^25.
+    #[error("there is no number or no room for another node")]
     Full,
     /// Memory ran out.
+    #[error("out of memory")]
     Memory,
 }
 
@@ -28,5 +33,3 @@ impl<T: Drop> From<AllocFailed<T>> for StoreFault {
         StoreFault::Memory
     }
 }
-
-ghost use Rattle.std.specs.Prelude.{◌≡◌};

@@ -1,14 +1,17 @@
 ghost use Rattle.std.specs.Prelude.{◌≡◌};
 
 use std::alloc::{AllocError, AllocFailed};
+use thiserror::Error;
 use values::PatchWhy;
 
 /// Why patches weren't applied.
-#[derive(Debug, Drop)]
+#[derive(Debug, Drop, Error)]
 pub enum ApplyFault {
     /// Memory ran out.
+    #[error("out of memory")]
     Memory,
     /// A patch can't be applied: its position in the list, from 0, and why.
+    #[error("patch {at}: {why}")]
     Refused { at: u64, why: PatchWhy },
 }
 

@@ -1,14 +1,17 @@
 ghost use Rattle.std.specs.Prelude.{◌≡◌};
 
 use std::alloc::{AllocError, AllocFailed};
+use thiserror::Error;
 use value_text::JsonWhy;
 
 /// Why a text wasn't read.
-#[derive(Debug, Drop)]
+#[derive(Debug, Drop, Error)]
 pub enum JsonFault {
     /// Memory ran out.
+    #[error("out of memory")]
     Memory,
     /// The text is no such value: its first fault.
+    #[error(transparent)]
     Refused(JsonWhy),
 }
 

@@ -3,13 +3,16 @@ ghost use Rattle.std.specs.Prelude.{◌≡◌, ◌<◌, ◌≤◌, ◌^◌, leng
 use std::alloc::{AllocError, Global};
 use std::marker::Model;
 use std::rc::Rc;
+use thiserror::Error;
 
 /// Why there is no such text.
-#[derive(Debug, Drop)]
+#[derive(Debug, Drop, Error)]
 pub enum TextFault {
     /// It has more than 2^20 bytes.
+    #[error("the text has more than 1,048,576 bytes")]
     TooLong,
     /// Memory ran out.
+    #[error("out of memory")]
     Memory,
 }
 
