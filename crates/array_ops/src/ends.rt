@@ -13,6 +13,7 @@ use std::alloc::Global;
 
 /// Adds the items behind a list's elements, and answers the new length. `TypeMismatch` for another operand, `Frozen`,
 /// `UndefinedWrite` for an item that is undefined.
+/// `Revoked` where an operand is a reference of another scope. `Memory` where memory runs out. After each of them all is as before.
 pub fn push(
     alloc: Global,
     scope: &mut Scope,
@@ -38,6 +39,7 @@ pub fn push(
 
 /// Adds the items before a list's elements, and answers the new length. `TypeMismatch` for another operand, `Frozen`,
 /// `UndefinedWrite` for an item that is undefined.
+/// `Revoked` where an operand is a reference of another scope. `Memory` where memory runs out. After each of them all is as before.
 pub fn unshift(
     alloc: Global,
     scope: &mut Scope,
@@ -62,6 +64,7 @@ pub fn unshift(
 }
 
 /// Removes the last element, and answers it, or `Undefined` where there is none. `TypeMismatch` for another operand, `Frozen`.
+/// `Revoked` where an operand is a reference of another scope. `Memory` where memory runs out. After each of them all is as before.
 pub fn pop(alloc: Global, scope: &mut Scope, store: &Store, of: &Rv) -> Result<Rv, DraftFault>
     requires stands { Stands store.now scope.old }
     requires owned { Owned (heap store.now scope.old) of.now }
@@ -79,6 +82,7 @@ pub fn pop(alloc: Global, scope: &mut Scope, store: &Store, of: &Rv) -> Result<R
 }
 
 /// Removes the first element, and answers it, or `Undefined` where there is none. `TypeMismatch` for another operand, `Frozen`.
+/// `Revoked` where an operand is a reference of another scope. `Memory` where memory runs out. After each of them all is as before.
 pub fn shift(alloc: Global, scope: &mut Scope, store: &Store, of: &Rv) -> Result<Rv, DraftFault>
     requires stands { Stands store.now scope.old }
     requires owned { Owned (heap store.now scope.old) of.now }

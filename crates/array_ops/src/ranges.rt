@@ -15,6 +15,7 @@ use std::alloc::Global;
 /// Replaces `count` elements from `start` on by the items, all of the rest where no count is given, and answers a fresh list of
 /// the elements that were removed. A negative start is counted from the end; both are cut to the list. `TypeMismatch` for
 /// another operand, `Frozen`, `UndefinedWrite` for an item that is undefined.
+/// `Revoked` where an operand is a reference of another scope. `Memory` where memory runs out. After each of them all is as before.
 pub fn splice(
     alloc: Global,
     scope: &mut Scope,
@@ -45,6 +46,7 @@ pub fn splice(
 
 /// A fresh list of the elements from `start` up to `end`, or up to the list's end where none is given. A negative start or end
 /// is counted from the end of the list; both are cut to the list. `TypeMismatch` for another operand.
+/// `Revoked` where an operand is a reference of another scope. `Memory` where memory runs out. After each of them all is as before.
 pub fn slice(
     alloc: Global,
     scope: &mut Scope,
@@ -69,6 +71,7 @@ pub fn slice(
 }
 
 /// Turns the order of a list's elements round. `TypeMismatch` for another operand, `Frozen`.
+/// `Revoked` where an operand is a reference of another scope. `Memory` where memory runs out. After each of them all is as before.
 pub fn reverse(alloc: Global, scope: &mut Scope, store: &Store, of: &Rv) -> Result<(), DraftFault>
     requires stands { Stands store.now scope.old }
     requires owned { Owned (heap store.now scope.old) of.now }
@@ -86,6 +89,7 @@ pub fn reverse(alloc: Global, scope: &mut Scope, store: &Store, of: &Rv) -> Resu
 
 /// Cuts a list to its first `n` elements. `TypeMismatch` for another operand, `Frozen`, `Hole` where `n` is negative or past the
 /// list's end.
+/// `Revoked` where an operand is a reference of another scope. `Memory` where memory runs out. After each of them all is as before.
 pub fn set_length(
     alloc: Global,
     scope: &mut Scope,

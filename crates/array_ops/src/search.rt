@@ -15,6 +15,7 @@ use std::alloc::Global;
 use std::slice;
 
 /// The index of the first element that is the same as the item, or -1 where there is none. `TypeMismatch` for another operand.
+/// `Revoked` where an operand is a reference of another scope. It takes no memory.
 pub fn index_of(
     _alloc: Global,
     scope: &mut Scope,
@@ -35,6 +36,7 @@ pub fn index_of(
 }
 
 /// Whether an element is the same as the item. `TypeMismatch` for another operand.
+/// `Revoked` where an operand is a reference of another scope. It takes no memory.
 pub fn includes(
     _alloc: Global,
     scope: &mut Scope,

@@ -56,6 +56,7 @@ impl Scope {
     }
 
     /// A fresh list of an object's keys, ascending. `TypeMismatch` for another operand.
+    /// `Revoked` where an operand is a reference of another scope. `Memory` where memory runs out. After each of them all is as before.
     pub fn keys(&mut self, alloc: Global, store: &Store, of: &Rv) -> Result<Rv, DraftFault>
         requires stands { Stands store.now self.old }
         requires owned { Owned (heap store.now self.old) of.now }

@@ -28,6 +28,7 @@ use values::Path;
 impl Scope {
     /// An object's value by a text, a list's element by an integer; `Undefined` where there is none. `TypeMismatch` for another
     /// operand or kind of key, `ReservedKey` for a reserved key of an object.
+    /// `Revoked` where an operand is a reference of another scope. `Memory` where memory runs out.
     pub fn get(
         &mut self,
         alloc: Global,
@@ -51,6 +52,7 @@ impl Scope {
     }
 
     /// The length of a list. `TypeMismatch` for another operand. It takes no memory.
+    /// `Revoked` where an operand is a reference of another scope.
     pub fn len(&self, store: &Store, of: &Rv) -> Result<u64, DraftFault>
         requires stands { Stands store.now self.now }
         requires owned { Owned (heap store.now self.now) of.now }
@@ -68,7 +70,8 @@ impl Scope {
         }
     }
 
-    /// The frozen container that a draft was opened on; `NotADraft` for any other value. It takes no memory.
+    /// The frozen container that a draft was opened on; `NotADraft` for any other value of the scope. It takes no memory.
+    /// `Revoked` where an operand is a reference of another scope.
     pub fn original(&self, store: &Store, v: &Rv) -> Result<Rv, DraftFault>
         requires { Stands store.now self.now }
         ensures answer { result ≡ spec.original (heap store.now self.now) v.now }

@@ -23,6 +23,7 @@ impl Scope {
     /// Sets an object's entry by a text, or a list's element by an integer; at a list's length it adds an element.
     /// `TypeMismatch` as `get`, `Frozen` for a frozen operand, `ReservedKey`, `KeyTooLong`, `Hole` for an index that is negative
     /// or past the length, `UndefinedWrite`. After a refusal all is as before.
+    /// `Revoked` where an operand is a reference of another scope. `Memory` where memory runs out.
     pub fn put(
         &mut self,
         alloc: Global,
@@ -46,6 +47,7 @@ impl Scope {
 
     /// Removes an object's entry by a text; where it is absent nothing changes. `TypeMismatch` for what isn't an object with a
     /// text key, `Frozen`, `ReservedKey`. After a refusal all is as before.
+    /// `Revoked` where an operand is a reference of another scope. `Memory` where memory runs out.
     pub fn remove(
         &mut self,
         alloc: Global,

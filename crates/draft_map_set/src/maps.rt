@@ -15,6 +15,7 @@ use std::alloc::{AllocError, Global};
 
 /// The value at a key of a Map, `Undefined` where the key is absent. `TypeMismatch` for what isn't a Map, `BadKey` for a key that
 /// isn't a primitive.
+/// `Revoked` where an operand is a reference of another scope. `Memory` where memory runs out.
 pub fn map_get(
     alloc: Global,
     scope: &mut Scope,
@@ -36,6 +37,7 @@ pub fn map_get(
 }
 
 /// Whether a key is in a Map. `TypeMismatch` for what isn't a Map, `BadKey` for a key that isn't a primitive.
+/// `Revoked` where an operand is a reference of another scope. It takes no memory.
 pub fn map_has(
     _alloc: Global,
     scope: &mut Scope,
@@ -53,6 +55,7 @@ pub fn map_has(
 
 /// Sets the value at a key of a Map. `TypeMismatch` for what isn't a Map, `Frozen` for a frozen one, `KeyTooLong` for a key of
 /// more than 1,024 bytes, `UndefinedWrite`, `BadKey` for a key that isn't a primitive. After a refusal all is as before.
+/// `Revoked` where an operand is a reference of another scope. `Memory` where memory runs out.
 pub fn map_set(
     alloc: Global,
     scope: &mut Scope,
@@ -78,6 +81,7 @@ pub fn map_set(
 
 /// Removes a key from a Map, and answers whether it was there; where it was absent nothing changes. `TypeMismatch` for what isn't
 /// a Map, `Frozen` for a frozen one, `BadKey` for a key that isn't a primitive. After a refusal all is as before.
+/// `Revoked` where an operand is a reference of another scope. `Memory` where memory runs out.
 pub fn map_delete(
     alloc: Global,
     scope: &mut Scope,
@@ -97,6 +101,7 @@ pub fn map_delete(
 
 /// Removes every entry of a Map. `TypeMismatch` for what isn't a Map, `Frozen` for a frozen one, also where it is empty. After a
 /// refusal all is as before.
+/// `Revoked` where an operand is a reference of another scope. `Memory` where memory runs out.
 pub fn map_clear(alloc: Global, scope: &mut Scope, store: &Store, of: &Rv) -> Result<(), DraftFault>
     requires stands { Stands store.now scope.old }
     requires owned { Owned (heap store.now scope.old) of.now }

@@ -16,6 +16,7 @@ use draft_core::{DraftFault, Rv, Scope, Store};
 use std::alloc::{AllocError, Global};
 
 /// How many entries a Map has, or members a Set. `TypeMismatch` for what is neither. It takes no memory.
+/// `Revoked` where an operand is a reference of another scope.
 pub fn size(scope: &Scope, store: &Store, of: &Rv) -> Result<u64, DraftFault>
     requires stands { Stands store.now scope.now }
     requires owned { Owned (heap store.now scope.now) of.now }
@@ -27,6 +28,7 @@ pub fn size(scope: &Scope, store: &Store, of: &Rv) -> Result<u64, DraftFault>
 
 /// A fresh list of a Map's keys or a Set's members, ascending. `TypeMismatch` for what is neither. After a refusal all is as
 /// before.
+/// `Revoked` where an operand is a reference of another scope. `Memory` where memory runs out.
 pub fn member_keys(
     alloc: Global,
     scope: &mut Scope,

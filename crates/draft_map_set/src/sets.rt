@@ -16,6 +16,7 @@ use std::alloc::{AllocError, Global};
 /// Adds a member to a Set; where it is there already nothing changes. `TypeMismatch` for what isn't a Set, `Frozen` for a frozen
 /// one, `KeyTooLong` for a text of more than 1,024 bytes, `BadKey` for a member that isn't a primitive. After a refusal all is as
 /// before.
+/// `Revoked` where an operand is a reference of another scope. `Memory` where memory runs out.
 pub fn set_add(
     alloc: Global,
     scope: &mut Scope,
@@ -41,6 +42,7 @@ pub fn set_add(
 }
 
 /// Whether a member is in a Set. `TypeMismatch` for what isn't a Set, `BadKey` for a member that isn't a primitive.
+/// `Revoked` where an operand is a reference of another scope. It takes no memory.
 pub fn set_has(
     _alloc: Global,
     scope: &mut Scope,
@@ -58,6 +60,7 @@ pub fn set_has(
 
 /// Removes a member from a Set, and answers whether it was there; where it was absent nothing changes. `TypeMismatch` for what
 /// isn't a Set, `Frozen` for a frozen one, `BadKey` for a member that isn't a primitive. After a refusal all is as before.
+/// `Revoked` where an operand is a reference of another scope. `Memory` where memory runs out.
 pub fn set_delete(
     alloc: Global,
     scope: &mut Scope,
@@ -77,6 +80,7 @@ pub fn set_delete(
 
 /// Removes every member of a Set. `TypeMismatch` for what isn't a Set, `Frozen` for a frozen one, also where it is empty. After a
 /// refusal all is as before.
+/// `Revoked` where an operand is a reference of another scope. `Memory` where memory runs out.
 pub fn set_clear(alloc: Global, scope: &mut Scope, store: &Store, of: &Rv) -> Result<(), DraftFault>
     requires stands { Stands store.now scope.old }
     requires owned { Owned (heap store.now scope.old) of.now }

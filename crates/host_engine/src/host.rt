@@ -1,5 +1,6 @@
 ghost use Rattle.std.specs.Prelude.{◌≡◌, ◌≤◌, ◌<◌, ◌+◌, ◌^◌, IfOk, IfErr, IsTrue, Some, None, min, []};
 ghost use Rattle.value_model.specs.Limits.{state_limit};
+ghost use Rattle.host_machine.specs.Carries.{IsSound};
 ghost use Rattle.host_machine.specs.Flat.{is_flat, is_built, are_flat};
 ghost use Rattle.numbered.specs.Tree.{number};
 ghost use Rattle.plain_values.specs.declared.command.Word.TheVariants as word;
@@ -17,7 +18,7 @@ use plain_values::{Command, Pair, Patches, Path, Refusal, Reply, Val, Word};
 use std::alloc::{AllocError, Global};
 use std::marker::Model;
 
-/// How many past changes are kept.
+/// How many past changes are counted at most.
 const MAX_PAST: u64 = 100;
 
 /// A host: one state, changed by commands.
@@ -69,10 +70,12 @@ impl Host {
         })
     }
 
-    /// How many commands the host has taken.
+    /// How many commands the host has taken. Its state is flat, and its names ascend.
     pub fn turns(&self) -> u64
-        ensures { result ≡ self.now.turns }
+        ensures turns { result ≡ self.now.turns }
+        ensures sound { IsSound (value self.now.machine) }
     {
+        let _in_order = self.store.len();
         self.turns
     }
 

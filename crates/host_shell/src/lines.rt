@@ -2,8 +2,7 @@
 ghost use Rattle.std.specs.Prelude.{◌≡◌, ◌≢◌, ◌≤◌, ◌<◌, ◌+◌, ◌*◌, ◌^◌, ◌++◌, ◌∷◌, ◌-◌, ℕ, List, Option, [], length, take, drop, min, IfOk, IfErr, OnOk, MatchOption, MatchResult};
 ghost use Rattle.std.specs.Io.KnownBytes.{Consumes, IsAtEnd, Keeps};
 ghost use Rattle.io_edges.specs.Causes.{HasCause, Rose};
-ghost use Rattle.host_machine.specs.Carries.{IsSound};
-ghost use Rattle.host_machine.specs.Machine.{Machine, value};
+ghost use Rattle.host_machine.specs.Machine.{Machine};
 ghost use Rattle.stream_run.proofs.LinesLaws.{HasNoLf};
 ghost use Rattle.stream_run.specs.Endings.{Ran};
 ghost use Rattle.stream_run.specs.Lines.{lines};
@@ -40,8 +39,9 @@ pub fn serve_lines<C: Source, O: Sink>(
     ensures read { result ≡ Status.ReadFault → Rose (C.faults commands.old) (C.faults commands.new) }
     ensures write { result ≡ Status.WriteFault → Rose (O.faults out.old) (O.faults out.new) }
     ensures usage { result ≢ Status.Usage }
-    ensures patches { IsSound (value host.machine) → (stream : List ℕ) → AllCarry host.machine (lines stream) }
+    ensures patches { (stream : List ℕ) → AllCarry host.machine (lines stream) }
 {
+    let _sound = host.turns();
     let mut host = host;
     let mut line = Line::new(alloc);
     let mut piece = [0u8; PIECE];
