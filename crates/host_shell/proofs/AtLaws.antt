@@ -3,10 +3,10 @@ use Rattle.std.proofs.Common.{◌≡◌, ◌≤◌, ◌+◌, ◌^◌, ℕ, List,
 use Rattle.std.proofs.KnownBytes.{Appends-trans, Appends-nil}
 use Rattle.std.specs.Io.KnownBytes.{Appends, Consumes}
 use Rattle.host_machine.specs.Machine.{Machine, Turned}
-use Rattle.stream_run.specs.Lines.{Cut, whole_lines, rest_of, lines}
+use Rattle.stream_run.specs.Lines.{HasNoLf, Cut, whole_lines, rest_of, lines}
 use Rattle.stream_run.specs.Runs.{line_answer, machine_after, replies, after}
 use Rattle.stream_run.specs.Endings.{IsPrefix, Ran}
-use Rattle.stream_run.proofs.LinesLaws.{HasNoLf, cut-nil, cut-chunk, cut-line, lines-front, lines-line, lines-rest, lines-whole}
+use Rattle.stream_run.proofs.LinesLaws.{cut-nil, cut-chunk, cut-line, lines-front, lines-line, lines-rest, lines-whole}
 use Rattle.stream_run.proofs.RunsLaws.{replies-one, after-one, prefix_lines, prefix_after}
 use Rattle.host_shell.specs.At.{IsAt, IsHalted}
 use Rattle.host_shell.specs.Ends.{IsAnswered, IsHeld}

@@ -1,7 +1,7 @@
 -- Where the first LF is.
 use Rattle.std.proofs.Common.{◌≡◌, ◌<◌, ◌≤◌, ℕ, zero, suc, List, [], ◌∷◌, ◌++◌, length, take, drop, get_or, ap, arith, add-one}
-use Rattle.stream_run.proofs.LinesLaws.{HasNoLf}
 use Rattle.host_shell.specs.At.{LfAt}
+use Rattle.stream_run.specs.Lines.{HasNoLf}
 
 pub no_lf_before : (bytes : List ℕ) (i : ℕ) → ((k : ℕ) → k < i → get_or bytes k 0 ≡ 10 → ⊥) → i ≤ length bytes → HasNoLf (take i bytes)
 no_lf_before [] zero h l = tt

@@ -3,8 +3,7 @@ use Rattle.std.specs.Prelude.{◌≡◌, ℕ, ◌+◌, ◌<◌, List, [], ◌∷
 use Rattle.std.proofs.Common.{take, drop}
 use Rattle.std.specs.Io.KnownBytes.{Appends}
 use Rattle.host_machine.specs.Machine.{Machine, Turned}
-use Rattle.stream_run.proofs.LinesLaws.{HasNoLf}
-use Rattle.stream_run.specs.Lines.{whole_lines, rest_of}
+use Rattle.stream_run.specs.Lines.{HasNoLf, whole_lines, rest_of}
 use Rattle.stream_run.specs.Runs.{replies, after}
 use Rattle.stream_run.specs.Endings.{IsStopped, IsUnwritten}
 use Rattle.host_shell.specs.Ends.{Ends}

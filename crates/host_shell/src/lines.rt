@@ -3,9 +3,8 @@ ghost use Rattle.std.specs.Prelude.{◌≡◌, ◌≢◌, ◌≤◌, ◌<◌, �
 ghost use Rattle.std.specs.Io.KnownBytes.{Consumes, IsAtEnd, Keeps};
 ghost use Rattle.io_edges.specs.Causes.{HasCause, Rose};
 ghost use Rattle.host_machine.specs.Machine.{Machine};
-ghost use Rattle.stream_run.proofs.LinesLaws.{HasNoLf};
 ghost use Rattle.stream_run.specs.Endings.{Ran};
-ghost use Rattle.stream_run.specs.Lines.{lines};
+ghost use Rattle.stream_run.specs.Lines.{HasNoLf, lines};
 ghost use Rattle.host_shell.specs.Carried.{AllCarry};
 ghost use Rattle.host_shell.specs.At.{IsAt, LfAt, Reaches, Finishes, Overruns};
 ghost use Rattle.host_shell.specs.Ends.{Ends, StopsFor, GivesPiece};

@@ -1,12 +1,7 @@
 -- Where a stream that grows is cut.
 use Rattle.std.proofs.Common.{◌≡◌, ◌≢◌, ℕ, List, [], ◌∷◌, ◌++◌, length, ap, refl, sym, ◌∙◌, append_assoc, append-nil, Bool, true, false, ◌==◌, arith, cond}
 use Rattle.std.proofs.lemmas.Bool.{ne_eqb, eqb-false}
-use Rattle.std.specs.List.{AllByRecursion}
-use Rattle.stream_run.specs.Lines.{Cut, cut, ended, onto_line, whole_lines, rest_of, last_line, lines}
-
--- no byte is LF
-abbrev pub HasNoLf : List ℕ → Type 0
-HasNoLf = AllByRecursion (λ c. c ≢ 10)
+use Rattle.stream_run.specs.Lines.{Cut, HasNoLf, cut, ended, onto_line, whole_lines, rest_of, last_line, lines}
 
 -- lines before those of a cut
 abbrev pub joined : List (List ℕ) → Cut → Cut
