@@ -1,7 +1,6 @@
 //! Calls that look for a value in a list.
 ghost use Rattle.std.specs.Prelude.{◌≡◌, ◌<◌, ◌^◌, [], ◌∷◌, length, IfSome};
 ghost use Rattle.std.specs.List.{position};
-ghost use Rattle.run_heap.specs.Answers.{Answers};
 ghost use Rattle.run_heap.specs.Operations.{table_of};
 ghost use Rattle.run_heap.specs.Sound.{IsContainer, Owned};
 ghost use Rattle.run_heap.specs.Values.{same};
@@ -25,7 +24,7 @@ pub fn index_of(
 ) -> Result<i64, DraftFault>
     requires stands { Stands store.now scope.old }
     requires owned { Owned (heap store.now scope.old) of.now }
-    ensures answer { Answers result (spec.index_of item.now (heap store.now scope.old) of.now) }
+    ensures answer { result ≡ spec.index_of item.now (heap store.now scope.old) of.now }
     ensures same { scope.new ≡ scope.old }
 {
     let len = readable(scope, store, of, slice::from_ref(item))?;
@@ -46,7 +45,7 @@ pub fn includes(
 ) -> Result<bool, DraftFault>
     requires stands { Stands store.now scope.old }
     requires owned { Owned (heap store.now scope.old) of.now }
-    ensures answer { Answers result (spec.includes item.now (heap store.now scope.old) of.now) }
+    ensures answer { result ≡ spec.includes item.now (heap store.now scope.old) of.now }
     ensures same { scope.new ≡ scope.old }
 {
     let len = readable(scope, store, of, slice::from_ref(item))?;

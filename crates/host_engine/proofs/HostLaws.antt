@@ -6,9 +6,9 @@ use Rattle.value_model.specs.Limits.{state_limit}
 use Rattle.value_model.specs.Plain as plain_value
 use Rattle.value_model.specs.Plain.{Plain, Table as TableOf, Entries, entries, list_of, weight}
 use Rattle.value_model.specs.Steps.{list_of_entries, entries-list_of}
-use Rattle.numbered.specs.Laws.{plain_numbered, used_append, load_full_together, small_state}
+use Rattle.numbered.specs.Laws.{plain_numbered, used_append, load_full_together, small_state, well_at}
 use Rattle.numbered.specs.Loading.{places, numbered, numbered_in, post_order, post_orders, additions, loaded, load_full}
-use Rattle.numbered.specs.Store.{tree_at, used as used_by, is_full}
+use Rattle.numbered.specs.Store.{IsStore, tree_at, used as used_by, is_full}
 use Rattle.numbered.specs.Tree.{Tree, plain, number}
 use Rattle.plain_values.specs.declared.command.Word.TheVariants as word
 use Rattle.plain_values.specs.declared.refusal.Refusal.TheVariants as refusal
@@ -17,6 +17,7 @@ use Rattle.plain_values.specs.declared.reply.Reply.TheVariants as reply
 use Rattle.values.specs.declared.patch.Pair.{Pair}
 use Rattle.values.specs.declared.patch.Patch.{Patch}
 use Rattle.patch_meaning.specs.Applying.{applied_from}
+use Rattle.host_machine.specs.Carries.{IsSound}
 use Rattle.host_machine.specs.Flat.{is_integer, is_flat, is_flat_table, are_flat}
 use Rattle.host_machine.specs.Machine.{Machine, value, table_of, opened, between, with_state, changed, refused, judged, writes, apply_step, no_path, node_shown, number_if}
 use Rattle.host_machine.specs.Machine.{is_full as is_full_of, is_heavy as is_heavy_of}
@@ -34,7 +35,7 @@ use Rattle.host_engine.specs.declared.change.ChangeStop.{ChangeStop}
 use Rattle.host_engine.specs.declared.change.ChangeStop.TheVariants as change
 use Rattle.host_engine.specs.declared.edits.EditStop.{EditStop}
 use Rattle.host_engine.specs.declared.edits.EditStop.TheVariants as edit
-use Rattle.host_engine.proofs.FieldLaws.{object_flat}
+use Rattle.host_engine.proofs.FieldLaws.{object_flat, table_sorted}
 use Rattle.host_engine.proofs.FlatLaws.{Flat, integer_head, flat_tail, at_most, frozen_weight, last_state}
 
 -- ---- the state and its patches
@@ -51,6 +52,10 @@ value_kept ts root h = flat_value (plain (tree_at ts root)) h.flat
 
 pub between_kept : (ts : List Tree) (root : ℕ) (new : TableOf) → between (plain (tree_at ts root)) (state_of new) ≡ between_tables (table_at ts root) new
 between_kept ts root new = rw (list_of_entries new) refl
+
+-- a state that is kept is flat, and its names ascend
+pub kept_sound : (ts : List Tree) (root mint past seq turns : ℕ) → IsKept ts root mint past seq turns → IsStore ts → IsSound (plain (tree_at ts root))
+kept_sound ts root mint past seq turns k s = record { flat = k.state.flat; ascending = table_sorted (tree_at ts root) k.state.flat (well_at ts root s k.state.inside) }
 
 -- ---- opening
 no_posts : (next : ℕ) (v : Plain) → IsTrue (is_integer v) → post_order (numbered next v) ≡ []

@@ -6,6 +6,6 @@ use Rattle.list_rows.specs.Edits.{includes_row}
 use Rattle.array_ops.proofs.search.includes.Goals as goal
 
 pub returns-clause-answer : goal.returns-clause-answer
-returns-clause-answer c =
+returns-clause-answer c = sym (
     includes_row c.args.item.now (heap c.args.store.now c.args.scope.now) c.args.of.now c.in_ok-len.len c.find.result (rw c.from_ref.ensures.value at c.in_ok-len.ensures.answer) c.find.ensures.index
-    ∙ ap (λ (b : Bool). let r : Result Bool DraftFault = Ok b in r) (sym c.is_some.ensures)
+    ∙ ap (λ (b : Bool). let r : Result Bool DraftFault = Ok b in r) (sym c.is_some.ensures))

@@ -1,7 +1,7 @@
-use Rattle.numbered.specs.Laws.{well_at}
-use Rattle.numbered.specs.Store.{tree_at}
-use Rattle.host_engine.proofs.FieldLaws.{table_sorted}
+use Rattle.host_engine.proofs.HostLaws.{kept_sound}
 use Rattle.host_engine.proofs.host.Host.turns.Goals as goal
 
 pub returns-clause-sound : goal.returns-clause-sound
-returns-clause-sound c = record { }
+returns-clause-sound c =
+    let h = c.self.inside in
+    rw (← c.self.view_is) (kept_sound h.store h.root h.mint h.past h.seq h.turns c.self.invariant c.len-in_order.ensures.store)
