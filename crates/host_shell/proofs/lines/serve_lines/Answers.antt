@@ -76,13 +76,13 @@ loop-count-preserved g c =
     }
 
 pub returns-in-Err-clause-patches : goal.returns-in-Err-clause-patches
-returns-in-Err-clause-patches g c = lines_carry c.args.host.machine c.turns.ensures.sound
+returns-in-Err-clause-patches g c = lines_carry c.args.host.machine c.turns-sound.ensures.sound
 
 pub returns-then-count-eq0-clause-patches : goal.returns-then-count-eq0-clause-patches
-returns-then-count-eq0-clause-patches g c = lines_carry c.args.host.machine c.turns.ensures.sound
+returns-then-count-eq0-clause-patches g c = lines_carry c.args.host.machine c.turns-sound.ensures.sound
 
 pub returns-then-total-count-gt-MAX_STREAM-clause-patches : goal.returns-then-total-count-gt-MAX_STREAM-clause-patches
-returns-then-total-count-gt-MAX_STREAM-clause-patches g c = lines_carry c.args.host.machine c.turns.ensures.sound
+returns-then-total-count-gt-MAX_STREAM-clause-patches g c = lines_carry c.args.host.machine c.turns-sound.ensures.sound
 
 pub returns-in-Err-feed-clause-patches : goal.returns-in-Err-feed-clause-patches
-returns-in-Err-feed-clause-patches g c = lines_carry c.args.host.machine c.turns.ensures.sound
+returns-in-Err-feed-clause-patches g c = lines_carry c.args.host.machine c.turns-sound.ensures.sound
