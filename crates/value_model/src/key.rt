@@ -9,9 +9,13 @@ use std::cmp::Ordering;
 /// A primitive value, which is also what a key, a member of a Set or a step of a path is.
 #[derive(Debug, Drop)]
 pub enum Key {
+    /// Null.
     Null,
+    /// False or true.
     Bool(bool),
+    /// An integer of magnitude at most 2^53 - 1.
     Int(Safe),
+    /// A text of at most 2^20 bytes.
     Text(Text),
 }
 

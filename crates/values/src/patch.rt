@@ -48,8 +48,11 @@ impl Path {
 /// A change at one place, in the form of Immer 10.
 #[derive(Drop)]
 pub struct Patch {
+    /// What is done.
     pub op: Op,
+    /// Where it is done, from the whole value on; the last step is in the container that changes.
     pub path: Path,
+    /// The value that is set or inserted, in a Set the member that is added or removed; None for another removal.
     pub value: Option<Val>,
 }
 
