@@ -24,8 +24,8 @@ use Rattle.patch_meaning.specs.Applying.{Fault, applied, patched}
 use Rattle.host_machine.specs.Differences.{same_table, differences, patches_weight}
 use Rattle.host_machine.specs.Paths.{subtree_at}
 
--- The numbered state, the least number not given yet, the sum of the own weights of all numbers given, how many past changes
--- are kept to be undone, and the number of changes so far.
+-- The numbered state, the least number not given yet, the sum of the own weights of all numbers given, the past changes,
+-- counted, at most 100, and the number of changes so far.
 pub record Machine : Type 0 where
   pub state : Tree
   pub next : ℕ
@@ -77,8 +77,8 @@ no_patches = record { forward = []; inverse = [] }
 abbrev pub between : Plain → Plain → Pair
 between old new = record { forward = differences (table_of old) (table_of new); inverse = differences (table_of new) (table_of old) }
 
--- Another flat state, under the next number. It is one container, so its own weight is its weight. The change is kept, with
--- the newest before it up to 100.
+-- Another flat state, under the next number. It is one container, so its own weight is its weight. Past changes are counted,
+-- at most 100.
 abbrev pub with_state : Machine → Plain → Machine
 with_state m new = record { state = numbered m.next new; next = m.next + 1; used = m.used + weight new; past = min (m.past + 1) 100; seq = m.seq + 1 }
 
