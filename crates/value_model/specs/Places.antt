@@ -1,5 +1,5 @@
 -- Places of a value: looking up, setting and removing an entry, and the walk along a path.
-use Rattle.std.specs.Prelude.{◌≡◌, pos, Option, Some, None, Bool, true, not, List, [], ◌∷◌, map, slice_get}
+use Rattle.std.specs.Prelude.{pos, Option, Some, None, Bool, true, not, List, [], ◌∷◌, map, slice_get}
 use Rattle.std.specs.FinMap.Entries.{find, put, where_key, is_sorted}
 use Rattle.std.specs.Ordering.{eq_by_cmp}
 use Rattle.value_model.specs.declared.key.Key.{Key}
@@ -37,10 +37,6 @@ without_key k es = where_key key_cmp (λ j. not (eq_by_cmp key_cmp k j)) es
 abbrev pub set_key : Key → Plain → Plain → Plain
 set_key k w (prim j) = prim j
 set_key k w (node kind es) = node kind (entries (put key_cmp k w (list_of es)))
-
-abbrev pub IsOfKind : Kind → Plain → Type 0
-IsOfKind kind (prim j) = ⊥
-IsOfKind kind (node other es) = other ≡ kind
 
 -- whether the keys ascend, where there are keys
 abbrev pub ascends_at : Kind → List (Key × Plain) → Bool

@@ -1,5 +1,5 @@
 -- A plain value: a primitive, or a container of values under keys (JSON of RFC 8259, with the Map and Set of ECMA-262).
-use Rattle.std.specs.Prelude.{ℕ, ◌+◌, ◌-◌, ◌/◌, max, List, [], ◌∷◌, length}
+use Rattle.std.specs.Prelude.{ℕ, ◌+◌, max, List, [], ◌∷◌, length}
 use Rattle.value_model.specs.declared.key.Key.{Key}
 use Rattle.value_model.specs.declared.key.Key.TheVariants.{Text}
 use Rattle.value_model.specs.declared.words.Kind.{Kind}
@@ -68,7 +68,3 @@ abbrev mutual
   pub deepest : Entries → ℕ
   deepest none = 0
   deepest (entry k v es) = max (depth v) (deepest es)
-
--- what a run pays for a value: a step for each value, and one for each 64 of what they weigh beyond that
-abbrev pub charge : Plain → ℕ
-charge v = values v + (weight v - values v) / 64

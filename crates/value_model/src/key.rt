@@ -31,16 +31,6 @@ impl Key {
         }
     }
 
-    /// How the key compares to a text.
-    pub fn compare_text(&self, other: &Text) -> Ordering
-        ensures { result ≡ key_cmp self.now (Key.Text other.now) }
-    {
-        match self {
-            Key::Text(text) => text.as_str().as_bytes().cmp(other.as_str().as_bytes()),
-            _ => self.rank().cmp(&4),
-        }
-    }
-
     /// The same key.
     pub fn copy(&self, alloc: Global) -> Result<Key, AllocError>
         ensures { IfOk result (λ k. k ≡ self.now) }
