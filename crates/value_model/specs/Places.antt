@@ -16,10 +16,12 @@ child_at kind.List _ es = None
 child_at kind.Set k es = None
 child_at _ k es = find key_cmp k es
 
+-- the child of a value; a primitive has none
 abbrev pub child : Key → Plain → Option Plain
 child k (prim j) = None
 child k (node kind es) = child_at kind k (list_of es)
 
+-- a walk that goes on, where something stands there
 abbrev pub then_at : (Plain → Option Plain) → Option Plain → Option Plain
 then_at f None = None
 then_at f (Some v) = f v

@@ -50,7 +50,7 @@ impl Path {
 pub struct Patch {
     /// What is done.
     pub op: Op,
-    /// Where it is done, from the whole value on; the last step is in the container that changes.
+    /// The steps to the place, from the whole value on; none where the whole value is replaced.
     pub path: Path,
     /// The value that is set or inserted, in a Set the member that is added or removed; None for another removal.
     pub value: Option<Val>,
