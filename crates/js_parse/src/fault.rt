@@ -11,7 +11,7 @@ pub enum ParseFault {
     /// The first token with which the tokens begin no program; the source's length where they end too early.
     #[error("the token at {0} is not expected")]
     Unexpected(usize),
-    /// The first token that opens a 65th level, where it stands before that.
+    /// The first token that opens a 65th level, where it stands before each unexpected one.
     #[error("too many levels are open at {0}")]
     TooNested(usize),
     /// A use of a variable for which no declaration that has ended stands, whether it reads or assigns.
