@@ -29,7 +29,7 @@ abbrev pub filled_from : ℕ → (ℕ → Bool) → ℕ → List ℕ → List �
 filled_from place test b [] = []
 filled_from place test b (byte ∷ bytes) = (if test place then b else byte) ∷ filled_from (place + 1) test b bytes
 
--- whether a call is a sync that succeeded
+-- whether a call is a sync (`fsync` of POSIX) that succeeded
 abbrev pub succeeds_as_sync : DiskCall → Bool
 succeeds_as_sync Looked = false
 succeeds_as_sync (Wrote at piece) = false

@@ -1,7 +1,7 @@
--- What the calls of a disk do to its bytes, and what a crash may leave of them.
+-- What the calls of a disk do to its bytes, as POSIX has them of a file, and what a crash may leave, which POSIX leaves open.
 use Rattle.std.specs.Prelude.{◌≡◌, ◌⊎◌, ℕ, ◌+◌, ◌≤◌, min, List, ◌++◌, length, take, drop, Option, Some}
 
--- the bytes after a write of a piece at a place
+-- the bytes after a write of a piece at a place (`write` of POSIX)
 abbrev pub written : ℕ → List ℕ → List ℕ → List ℕ
 written at piece bytes = take at bytes ++ piece ++ drop (at + length piece) bytes
 
@@ -12,7 +12,7 @@ pub record Torn (at n : ℕ) (old new : List ℕ) : Type 0 where
   pub no_more : length middle ≤ n
   pub no_shorter : length old ≤ length new
 
--- an image after a cut, done or not: an end between the old one and the new
+-- an image after a cut (`ftruncate` of POSIX), done or not: an end between the old one and the new
 pub record Cut (end : ℕ) (old new : List ℕ) : Type 0 where
   pub front : new ≡ take (length new) old
   pub no_shorter : min (length old) end ≤ length new
@@ -25,7 +25,7 @@ Follows step before now = (image : List ℕ) → now image → (old : List ℕ) 
 abbrev pub AddsNone : (List ℕ → Type 0) → (List ℕ → Type 0) → Type 0
 AddsNone before now = (image : List ℕ) → now image → before image
 
--- each image that a crash now may leave is what a read gives
+-- each image that a crash now may leave is what a read gives, as after a sync (`fsync` of POSIX)
 pub record IsSettled {D : Type 0} (told : D → Option (List ℕ)) (may_leave : D → List ℕ → Type 0) (disk : D) : Type 0 where
   pub only : (image : List ℕ) → may_leave disk image → told disk ≡ Some image
 

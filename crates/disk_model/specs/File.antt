@@ -1,4 +1,4 @@
--- A disk over a file or over none, as contracts see it.
+-- A disk over a file of POSIX or over none, as contracts see it.
 use Rattle.std.specs.Prelude.{◌≡◌, ℕ, Bool, false, Result, IsErr}
 use Rattle.io_edges.specs.Causes.{CountsFaults}
 

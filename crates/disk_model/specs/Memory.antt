@@ -5,7 +5,7 @@ use Rattle.disk_model.specs.Disk.{written, Torn, Cut}
 use Rattle.disk_model.specs.declared.call.DiskCall.{DiskCall}
 use Rattle.disk_model.specs.declared.call.DiskCall.TheVariants.{Looked, Wrote, WriteFailed, CutOff, CutFailed, Synced}
 
--- what a read gives after a call
+-- what a read gives after a call: a write, a cut and a sync as `write`, `ftruncate` and `fsync` of POSIX
 abbrev pub after_call : List ℕ → DiskCall → List ℕ
 after_call bytes Looked = bytes
 after_call bytes (Wrote at piece) = written at piece bytes

@@ -6,7 +6,7 @@ ghost use Rattle.disk_model.specs.Disk.{written, Torn, Cut, Follows, AddsNone, I
 use io_edges::Failed;
 
 /// A file on a disk, as a journal sees it: what a read gives, and what a crash may leave, its
-/// images.
+/// images. What the calls do is as POSIX has it; what a crash may leave is a rule of this project.
 ///
 /// Between two syncs each written range, and every byte past the old end, may hold any bytes in an
 /// image, and an image may end at any length between the shortest and the longest since the last
@@ -52,8 +52,8 @@ pub trait Disk {
         ensures time { Elapses moment left_since may_leave self.old self.new }
         ensures cause { HasCause (faults self.old) (faults self.new) result };
 
-    /// Writes over the bytes from `at` on, and past the end. `at` is at most the length, where the
-    /// bytes are told.
+    /// Writes over the bytes from `at` on, and past the end, as `write` of POSIX at that offset does.
+    /// `at` is at most the length, where the bytes are told.
     fn write_at(&mut self, at: u64, piece: &[u8]) -> Result<(), Failed>
         requires begins { IfSome (told self.old) (λ bytes. at ≤ length bytes) }
         requires within { at + length piece.now < 2 ^ 63 }
@@ -63,7 +63,8 @@ pub trait Disk {
         ensures time { Elapses moment left_since may_leave self.old self.new }
         ensures cause { HasCause (faults self.old) (faults self.new) result };
 
-    /// Cuts the bytes off from `end` on. `end` is at most the length, where the bytes are told.
+    /// Cuts the bytes off from `end` on, as `ftruncate` of POSIX does. `end` is at most the length,
+    /// where the bytes are told.
     fn cut(&mut self, end: u64) -> Result<(), Failed>
         requires ends { IfSome (told self.old) (λ bytes. end ≤ length bytes) }
         requires within { end < 2 ^ 63 }
@@ -73,8 +74,8 @@ pub trait Disk {
         ensures time { Elapses moment left_since may_leave self.old self.new }
         ensures cause { HasCause (faults self.old) (faults self.new) result };
 
-    /// Makes the bytes and the length last: afterwards an image is what a read gives. The bytes
-    /// stay, and no image is added; where it fails, it doesn't count as a sync.
+    /// Makes the bytes and the length last, as `fsync` of POSIX does: afterwards an image is what a
+    /// read gives. The bytes stay, and no image is added; where it fails, it doesn't count as a sync.
     fn sync(&mut self) -> Result<(), Failed>
         ensures done { OnOk result (IsSettled told may_leave self.new) }
         ensures bytes { told self.new ≡ told self.old }

@@ -6,8 +6,8 @@ use crate::disk::Disk;
 use io_edges::Failed;
 
 /// Writes a piece from `at` on, and makes it last: after `Ok` each crash leaves the bytes with the
-/// piece in them. A crash within the call leaves any bytes in its place and the others as they
-/// were, whatever the answer.
+/// piece in them. Where the disk is settled before (a crash leaves what a read gives), a crash
+/// within the call leaves any bytes in its place and the others as they were, whatever the answer.
 ///
 /// `Failed` comes only where the disk's count of faults rose in this call.
 pub fn write_through<D: Disk>(disk: &mut D, at: u64, piece: &[u8]) -> Result<(), Failed>
@@ -25,7 +25,8 @@ pub fn write_through<D: Disk>(disk: &mut D, at: u64, piece: &[u8]) -> Result<(),
 }
 
 /// Cuts the bytes off from `end` on, and makes that last: after `Ok` each crash leaves the bytes
-/// before `end`. A crash within the call leaves an end somewhere between, whatever the answer.
+/// before `end`. Where the disk is settled before (a crash leaves what a read gives), a crash
+/// within the call leaves an end somewhere between, whatever the answer.
 ///
 /// `Failed` comes only where the disk's count of faults rose in this call.
 pub fn cut_through<D: Disk>(disk: &mut D, end: u64) -> Result<(), Failed>

@@ -15,6 +15,7 @@ pub record IsSound (state : Plain) : Type 0 where
   pub flat : IsTrue (is_flat state)
   pub ascending : IsTrue (is_sorted key_cmp (table_of state))
 
+-- what a reply says of the states before and after: its patches carry the one to the other, and back
 abbrev pub CarriesBy : Tree → Tree → Reply → Type 0
 CarriesBy old new (reply.Changed word pair root seq) = (applied pair.forward (plain old) ≡ Ok (plain new)) × (applied pair.inverse (plain new) ≡ Ok (plain old))
 CarriesBy old new _ = new ≡ old

@@ -25,9 +25,11 @@ abbrev pub union : Table → Table → Table
 union es [] = es
 union es (f ∷ fs) = union (put key_cmp f.0 f.1 es) fs
 
+-- the keys of a table
 abbrev pub keys : Table → List Key
 keys es = map (λ e. e.0) es
 
+-- the patch of one entry
 abbrev pub patch : Op → Key → Option Plain → Patch
 patch op k v = record { op = op; path = k ∷ []; value = v }
 
@@ -38,6 +40,7 @@ change k None (Some w) = patch Add k (Some w) ∷ []
 change k (Some v) None = patch Remove k None ∷ []
 change k (Some v) (Some w) = if same v w then [] else patch Replace k (Some w) ∷ []
 
+-- the patches of these entries, one after another
 abbrev pub changes : List Key → Table → Table → List Patch
 changes [] old new = []
 changes (k ∷ ks) old new = change k (find key_cmp k old) (find key_cmp k new) ++ changes ks old new
@@ -46,18 +49,21 @@ changes (k ∷ ks) old new = change k (find key_cmp k old) (find key_cmp k new) 
 unfoldable pub differences : Table → Table → List Patch
 differences old new = changes (keys (union old new)) old new
 
--- a patch weighs 1, its path's keys and its value
+-- what the keys of a path weigh
 abbrev pub path_weight : List Key → ℕ
 path_weight [] = 0
 path_weight (k ∷ ks) = key_weight k + path_weight ks
 
+-- what a value weighs, where there is one
 abbrev pub value_weight : Option Plain → ℕ
 value_weight None = 0
 value_weight (Some v) = weight v
 
+-- a patch weighs 1, its path's keys and its value
 abbrev pub patch_weight : Patch → ℕ
 patch_weight p = 1 + path_weight p.path + value_weight p.value
 
+-- what patches weigh together
 abbrev pub patches_weight : List Patch → ℕ
 patches_weight [] = 0
 patches_weight (p ∷ ps) = patch_weight p + patches_weight ps

@@ -11,10 +11,12 @@ use Rattle.values.specs.declared.patch.Patch.{Patch}
 use Rattle.plain_values.specs.declared.command.Command.{Command}
 use Rattle.plain_values.specs.declared.command.Command.TheVariants as command
 
+-- an integer
 abbrev pub is_integer : Plain → Bool
 is_integer (prim (Int n)) = true
 is_integer _ = false
 
+-- a key that is a text
 abbrev pub is_text_key : Key → Bool
 is_text_key (Text s) = true
 is_text_key _ = false
@@ -28,6 +30,7 @@ abbrev pub is_flat_table : Table → Bool
 is_flat_table [] = true
 is_flat_table (e ∷ es) = is_field_key e.0 && is_integer e.1 && is_flat_table es
 
+-- an object of integers
 abbrev pub is_flat : Plain → Bool
 is_flat (node kind.Obj es) = is_flat_table (list_of es)
 is_flat _ = false
@@ -44,9 +47,11 @@ is_flat_value Remove (Some v) = false
 is_flat_value _ None = false
 is_flat_value _ (Some v) = is_integer v
 
+-- a patch with such a path and such a value
 abbrev pub is_flat_patch : Patch → Bool
 is_flat_patch p = is_flat_path p.path && is_flat_value p.op p.value
 
+-- each patch is of this form
 abbrev pub are_flat : List Patch → Bool
 are_flat [] = true
 are_flat (p ∷ ps) = is_flat_patch p && are_flat ps

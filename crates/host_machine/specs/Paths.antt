@@ -20,10 +20,12 @@ subtree_in kind.List _ es = None
 subtree_in kind.Set k es = None
 subtree_in _ k es = find key_cmp k es
 
+-- the child of a state at a step; a primitive has none
 abbrev pub subtree : Key → Tree → Option Tree
 subtree k (prim j) = None
 subtree k (node id kind es) = subtree_in kind k (branch_list es)
 
+-- a walk that goes on, where something stands there
 abbrev pub then_subtree : (Tree → Option Tree) → Option Tree → Option Tree
 then_subtree f None = None
 then_subtree f (Some t) = f t

@@ -7,8 +7,10 @@ use thiserror::Error;
 /// What is wrong with a name, and the number of its token.
 #[derive(Debug, Drop, Error)]
 pub enum NameFault {
+    /// The name of this token, the first in the text with which something is wrong.
     #[error("{0:?} at the token {1}")]
     Wrong(Cause, usize),
+    /// Memory ran out.
     #[error("out of memory")]
     Memory,
 }

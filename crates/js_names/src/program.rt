@@ -88,7 +88,8 @@ fn names_in(
 }
 
 /// The declaration that each name of a variable belongs to, for each reducer, or the first fault in the text with the
-/// number of its token: `UnknownName`, `Duplicate` and `ConstWrite` as `script_names` defines them.
+/// number of its token: `UnknownName`, `Duplicate` and `ConstWrite` as `script_names` defines them. `Memory` where memory
+/// ran out, which may come in place of each.
 pub fn resolve(alloc: Global, reducers: &[Reducer]) -> Result<Names, NameFault>
     ensures names { MatchResult result (λ names. names_of (program_of reducers.now) ≡ Ok names.found) (λ f. IsFault (names_of (program_of reducers.now)) f) }
     ensures index { IfOk result (λ names. (x : List ℕ) → number_in names.index x ≡ reducer_named x (program_of reducers.now)) }

@@ -8,16 +8,22 @@ use thiserror::Error;
 /// Why tokens are no program, with the offset in bytes.
 #[derive(Debug, Drop, Error)]
 pub enum ParseFault {
+    /// The first token with which the tokens begin no program; the source's length where they end too early.
     #[error("nothing goes on like this at {0}")]
     Unexpected(usize),
+    /// The first token that opens a 65th level, where it stands before each unexpected one.
     #[error("too many levels are open at {0}")]
     TooNested(usize),
+    /// A use of a variable for which no declaration that has ended stands, whether it reads or assigns.
     #[error("no declaration that has ended stands for the name at {0}")]
     UnknownName(usize),
+    /// The name of the second declaration in a scope, or of the second reducer.
     #[error("the name at {0} is declared for the second time")]
     Duplicate(usize),
+    /// The name that is assigned to and stands for a constant.
     #[error("the constant at {0} is assigned to")]
     ConstWrite(usize),
+    /// Memory ran out.
     #[error("out of memory")]
     Memory,
 }

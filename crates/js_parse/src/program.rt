@@ -13,16 +13,20 @@ use sqlite_items::Items;
 /// A program: its reducers, and the declaration that each of their names belongs to.
 #[derive(Drop)]
 pub struct Program {
+    /// The reducers, in the text's order.
     pub reducers: Items<Reducer>,
+    /// For each reducer the declaration that each of its names belongs to, and the reducers by their names.
     pub names: Names,
     /// For each reducer the numbers of its variables.
     pub slots: Items<Slots>,
+    /// The index has each reducer under its name.
     pub ghost indexed: { (x : List ℕ) → number_in names.index x ≡ reducer_named x (program_of reducers) },
 }
 
 /// The number of a reducer among the reducers of a program.
 #[derive(Clone, Copy, Debug, Drop, PartialEq, Eq)]
 pub struct ReducerId {
+    /// From 0, below the number of reducers.
     pub number: usize,
 }
 

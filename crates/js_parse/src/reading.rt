@@ -26,8 +26,12 @@ use sqlite_items::Items;
 use std::alloc::Global;
 
 /// The program that the tokens of this source are, or the first fault with its offset in bytes: `TooNested` where a token
-/// opens more than 64 levels, and `Unexpected` at the first token with which they begin no program, the earlier of the
-/// two; and otherwise the first fault of a name.
+/// opens more than 64 levels, and `Unexpected` at the first token with which they begin no program (the source's length
+/// where they end too early), the earlier of the two.
+///
+/// Where there is neither, the first fault of a name, at that name: `UnknownName` at a use that no declaration that has
+/// ended stands for, `Duplicate` at the second declaration of a name in a scope or the second reducer of a name,
+/// `ConstWrite` where a constant is assigned to. `Memory` where memory ran out, which may come in place of each.
 pub fn parse(alloc: Global, source: &[u8], tokens: &Tokens) -> Result<Program, ParseFault>
     ensures parses { Parses source.now tokens.now result }
     ensures slots { IfOk result (λ r. HaveSlots r.names.found r.slots) }

@@ -8,6 +8,7 @@ use std::collections::BTreeMap;
 /// The numbers of variables by the numbers of the tokens of their names.
 #[derive(Drop)]
 pub struct Slots {
+    /// For each token that is such a name, the number of its variable, from 0 below `count`.
     pub numbers: BTreeMap<usize, usize>,
     /// How many variables the reducer has.
     pub count: usize,

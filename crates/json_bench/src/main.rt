@@ -3,12 +3,11 @@
 #![tactic(auto)]
 
 mod answers;
-mod hex;
 mod speed;
 
-use std::{env, fs, io};
+use std::{env, fs};
 
-fn main(rt: HostRuntime) -> io::Result<()> {
+fn main(rt: HostRuntime) -> anyhow::Result<()> {
     let mut words = env::args(&rt)?.skip(1);
     match (words.next(), words.next()) {
         (Some(word), Some(path)) => {
@@ -21,7 +20,8 @@ fn main(rt: HostRuntime) -> io::Result<()> {
         }
         _ => {
             for line in rt.lines(rt.alloc()) {
-                let bytes = hex::decode(rt.alloc(), line?.as_str().as_bytes())?;
+                let line = line?;
+                let bytes = hex::decode(rt.alloc(), line.as_bytes())?;
                 let answer = answers::answer(rt.alloc(), bytes.as_slice())?;
                 println!(rt; "{answer}")?;
             }

@@ -11,13 +11,15 @@ use Rattle.plain_values.specs.Names.{word_name, refusal_name}
 use Rattle.value_text.specs.Patches.{patches_data}
 use Rattle.value_text.specs.Printing.{val_data}
 
+-- a count
 abbrev pub count_data : ℕ → Data
 count_data n = number (unsigned n)
 
--- the members `no` and `why`, and before them the position of a patch where there is one
+-- the members `no` and `why`
 abbrev pub refusal_members : Word → Refusal → Members
 refusal_members word why = member (codes "no") (string (word_name word)) (member (codes "why") (string (refusal_name why)) no_members)
 
+-- members, and before them the position of a patch where there is one
 abbrev pub with_position : Option ℕ → Members → Members
 with_position None ms = ms
 with_position (Some i) ms = member (codes "at") (count_data i) ms
@@ -27,9 +29,11 @@ abbrev pub node_data : Option ℕ → Data
 node_data None = null
 node_data (Some n) = count_data n
 
+-- the word of a reply
 abbrev pub said : Word → Data
 said w = string (word_name w)
 
+-- the object that a reply is
 unfoldable pub reply_data : Reply → Data
 reply_data (reply.Changed word pair root seq) =
     object (member (codes "inverse") (patches_data pair.inverse) (member (codes "ok") (string (word_name word)) (member (codes "patches") (patches_data pair.forward)

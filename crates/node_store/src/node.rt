@@ -55,7 +55,9 @@ impl NodeId {
 /// What stands at an entry of a node: a primitive, or another node.
 #[derive(Debug, Drop)]
 pub enum Cell {
+    /// The primitive itself.
     Prim(Key),
+    /// A container, by its number.
     Node(NodeId),
 }
 
@@ -145,9 +147,13 @@ impl Cells {
 /// a Set each cell is its key.
 #[derive(Drop)]
 pub struct Node {
+    /// What the container is.
     pub kind: Kind,
+    /// The keys of its entries; none in a list.
     pub keys: Keys,
+    /// What stands at its entries, in their order.
     pub cells: Cells,
+    /// The keys fit the kind and the cells.
     pub ghost fits: { IsTrue (is_node kind keys cells) },
 }
 

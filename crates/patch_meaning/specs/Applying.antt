@@ -44,11 +44,12 @@ abbrev pub in_map : Op → Key → Option Plain → Table → Result Table Patch
 in_map Remove k v es = Ok (without_key k es)
 in_map _ k v es = unless (is_long_key k) why.KeyTooLong (with_value v (λ w. Ok (put_entry k w es)))
 
--- a Set: the step isn't looked at, and the value is the member
+-- a member is a primitive
 abbrev pub with_member : (Key → Result Table PatchWhy) → Plain → Result Table PatchWhy
 with_member f (prim k) = f k
 with_member f (node kind es) = Err why.BadKey
 
+-- a Set: the step isn't looked at, and the value is the member
 abbrev pub in_set : Op → Option Plain → Table → Result Table PatchWhy
 in_set Add v es = with_value v (with_member (λ k. unless (is_long_key k) why.KeyTooLong (Ok (put_entry k (prim k) es))))
 in_set Remove v es = with_value v (with_member (λ k. Ok (without_key k es)))
@@ -68,6 +69,7 @@ abbrev pub set_at : ℤ → Option Plain → Table → Result Table PatchWhy
 set_at (pos i) v es = unless (nat_lt (length es) i) why.Hole (with_value v (λ w. Ok (take i es ++ element w ∷ drop (i + 1) es)))
 set_at _ v es = Err why.Hole
 
+-- removed at the index of an element
 abbrev pub take_out : ℤ → Table → Result Table PatchWhy
 take_out (pos i) es = unless (nat_le (length es) i) why.NoPath (Ok (remove es i))
 take_out _ es = Err why.NoPath
@@ -77,6 +79,7 @@ abbrev pub cut_to : Table → Plain → Result Table PatchWhy
 cut_to es (prim (Int (pos n))) = unless (nat_lt (length es) n) why.Hole (Ok (take n es))
 cut_to es _ = Err why.BadKey
 
+-- a list: an index, `-` behind the last element, or `length`
 abbrev pub in_list : Op → Key → Option Plain → Table → Result Table PatchWhy
 in_list Add (Int i) v es = insert_at i v es
 in_list Add (Text s) v es = if bytes_eq s (codes "-") then with_value v (λ w. Ok (es ++ element w ∷ [])) else Err why.BadKey
@@ -94,6 +97,7 @@ edited kind.Set op k v es = in_set op v es
 
 -- ---- one patch, from the root on
 
+-- the container with this table
 abbrev pub as_node : Kind → Result Table PatchWhy → Result Plain PatchWhy
 as_node kind (Ok es) = Ok (node kind (entries es))
 as_node kind (Err w) = Err w
@@ -103,10 +107,12 @@ abbrev pub with_child : Kind → Key → Table → Plain → Table
 with_child kind.List (Int (pos i)) es w = slice_set es i (element w)
 with_child _ k es w = put_entry k w es
 
+-- the container with this child
 abbrev pub as_child : Kind → Key → Table → Result Plain PatchWhy → Result Plain PatchWhy
 as_child kind k es (Ok w) = Ok (node kind (entries (with_child kind k es w)))
 as_child kind k es (Err w) = Err w
 
+-- a name of an object that is reserved
 abbrev pub is_reserved_step : Kind → Key → Bool
 is_reserved_step kind.Obj k = is_reserved_key k
 is_reserved_step _ k = false
@@ -116,6 +122,7 @@ abbrev pub into_child : (Plain → Result Plain PatchWhy) → Option Plain → R
 into_child f None = Err why.NoPath
 into_child f (Some w) = f w
 
+-- what a patch makes of a value, or why it cannot be applied
 abbrev pub patched : Op → Option Plain → List Key → Plain → Result Plain PatchWhy
 patched op v [] x = Err why.NoPath
 patched op v (k ∷ []) (prim j) = Err why.NoPath
@@ -131,6 +138,7 @@ pub record Fault : Type 0 where
   pub at : ℕ
   pub why : PatchWhy
 
+-- the patches go on, or the fault has this position
 abbrev pub fault_at : ℕ → Result Plain PatchWhy → (Plain → Result Plain Fault) → Result Plain Fault
 fault_at i (Ok x) f = f x
 fault_at i (Err w) f = Err (record { at = i; why = w })
@@ -145,6 +153,7 @@ abbrev pub is_root : Op → List Key → Bool
 is_root Replace [] = true
 is_root _ _ = false
 
+-- the same of a patch
 abbrev pub is_root_replace : Patch → Bool
 is_root_replace p = is_root p.op p.path
 
@@ -153,6 +162,7 @@ abbrev pub from_root : ℕ → Option Plain → (Plain → Result Plain Fault) �
 from_root i None f = Err (record { at = i; why = why.UndefinedWrite })
 from_root i (Some w) f = f w
 
+-- some patch replaces the root
 abbrev pub has_root_replace : List Patch → Bool
 has_root_replace [] = false
 has_root_replace (p ∷ ps) = is_root_replace p || has_root_replace ps

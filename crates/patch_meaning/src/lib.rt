@@ -1,2 +1,2 @@
-//! What patches do to plain values. Definitions alone, with examples that the check computes.
+//! What patches do to plain values: definitions alone, in `specs/Applying`.
 #![tactic(auto)]

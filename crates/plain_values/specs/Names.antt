@@ -9,6 +9,7 @@ use Rattle.plain_values.specs.declared.command.Word.TheVariants as word
 use Rattle.plain_values.specs.declared.refusal.Refusal.{Refusal}
 use Rattle.plain_values.specs.declared.refusal.Refusal.TheVariants as refusal
 
+-- a word as lines spell it
 abbrev pub word_name : Word → List ℕ
 word_name word.Dispatch = codes "dispatch"
 word_name word.Apply = codes "apply"
@@ -24,6 +25,7 @@ word_name word.Stat = codes "stat"
 word_name word.Renew = codes "renew"
 word_name word.Line = codes "line"
 
+-- a refusal as replies print it
 abbrev pub refusal_name : Refusal → List ℕ
 refusal_name refusal.LineTooLong = codes "LineTooLong"
 refusal_name refusal.NotJson = codes "NotJson"
@@ -46,7 +48,7 @@ refusal_name refusal.UndefinedWrite = codes "UndefinedWrite"
 refusal_name refusal.Full = codes "Full"
 refusal_name refusal.PatchesTooBig = codes "PatchesTooBig"
 
--- a limit of values, and a fault of a patch, as the refusals of their names
+-- a limit of values as the refusal of its name
 abbrev pub limit_refusal : Limit → Refusal
 limit_refusal limit.NotContainer = refusal.NotContainer
 limit_refusal limit.TooDeep = refusal.TooDeep
@@ -54,6 +56,7 @@ limit_refusal limit.TooBig = refusal.TooBig
 limit_refusal limit.KeyTooLong = refusal.KeyTooLong
 limit_refusal limit.ReservedKey = refusal.ReservedKey
 
+-- a fault of a patch as the refusal of its name
 abbrev pub patch_refusal : PatchWhy → Refusal
 patch_refusal why.NoPath = refusal.NoPath
 patch_refusal why.BadKey = refusal.BadKey

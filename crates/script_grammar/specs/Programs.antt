@@ -1,4 +1,4 @@
--- What tokens are a program, and which token is the first with which they are none.
+-- What tokens are a program of the grammar, a subset of ECMA-262, and which token is the first with which they are none.
 use Rattle.std.specs.Prelude.{◌≡◌, ℕ, suc, true, false, [], ◌∷◌, ◌++◌, length}
 use Rattle.script_grammar.specs.Tokens.{Tok, Toks}
 use Rattle.script_grammar.specs.Trees.{Program}

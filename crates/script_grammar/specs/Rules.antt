@@ -1,5 +1,5 @@
--- What a derivation keeps besides its spelling: how tightly operators bind, what may be assigned and deleted, and
--- where an `else` belongs. And which tokens open how many levels.
+-- What a derivation keeps besides its spelling, as in ECMA-262: how tightly operators bind, what may be assigned and deleted,
+-- and where an `else` belongs. And which tokens open how many levels, which is a limit of this language.
 use Rattle.std.specs.Prelude.{◌≡◌, ℕ, zero, suc, ◌-◌, ◌<◌, Bool, true, false, ◌&&◌, [], ◌∷◌, length}
 use Rattle.script_text.specs.declared.sign.Sign.{Sign}
 use Rattle.script_text.specs.declared.sign.Sign.TheVariants.{Same, NotSame, AtMost, AtLeast, Less, Greater, And, Or, Plus, Minus, Star, Percent, Not, OpenBrace}
@@ -7,7 +7,7 @@ use Rattle.script_grammar.specs.Tokens.{Tok, Fixed, Toks}
 use Rattle.script_grammar.specs.Spelling.{spell_ex, spell_prop, spell_suffix, spell_stmt, spell_item, spell_params, spell_reducer}
 use Rattle.script_grammar.specs.Trees.{Ex, Literal, Var, Round, ListOf, Object, Member, Unary, Chain, Choice, Elems, NoElems, LastElem, ThenElem, Prop, Keyed, Quoted, Short, Props, NoProps, LastProp, ThenProp, Suffix, Dot, Index, Suffixes, NoSuffixes, ThenSuffix, Links, NoLinks, ThenLink, Stmt, Block, Empty, IfThen, IfElse, Return, ReturnOf, Throw, ThrowError, Delete, Set, Do, Item, Const, Let, LetBe, Plain, Items, NoItems, ThenItem, Reducer, Function, Program, NoReducers, ThenReducer}
 
--- the level of a binary operator, from 0, the tightest, to 5; 6 for other signs
+-- the level of a binary operator, by the precedence of ECMA-262, from 0, the tightest, to 5; 6 for other signs
 abbrev pub level_of : Sign → ℕ
 level_of Star = 0
 level_of Percent = 0

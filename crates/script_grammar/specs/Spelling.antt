@@ -1,4 +1,4 @@
--- Which tokens spell a tree.
+-- Which tokens spell a tree: the productions of the grammar, as ECMA-262 has them.
 use Rattle.std.specs.Prelude.{[], ◌∷◌, ◌++◌}
 use Rattle.script_text.specs.declared.sign.Sign.TheVariants.{OpenRound, CloseRound, OpenBrace, CloseBrace, OpenSquare, CloseSquare, Comma, Semicolon, Colon, Dot as Point, Question, Assign}
 use Rattle.script_text.specs.declared.word.Reserved.TheVariants as kept

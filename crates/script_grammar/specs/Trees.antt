@@ -1,4 +1,5 @@
--- The derivations of the grammar, as trees. Chains of one operator level, members and lists are kept as lists.
+-- The derivations of the grammar, a subset of that of ECMA-262, as trees. Chains of one operator level, members and lists are
+-- kept as lists.
 use Rattle.std.specs.Prelude.{ℕ, List}
 use Rattle.script_text.specs.declared.sign.Sign.{Sign}
 use Rattle.script_text.specs.declared.word.Reserved.{Reserved}

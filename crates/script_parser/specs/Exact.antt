@@ -6,6 +6,7 @@ use Rattle.script_grammar.specs.Programs.{IsProgram, IsUnexpected, IsTooNested}
 use Rattle.script_parser.specs.Steps.{Unexpected, TooNested}
 use Rattle.script_parser.specs.Parser.{program}
 
+-- for d levels: what is read is a program of the tokens, and each program is read; each fault is the first, and the first is answered
 pub record Exact (d : ℕ) (ts : Toks) : Type 0 where
   pub read : (p : Program) (rest : Toks) → program d ts ≡ Ok (p, rest) → IsProgram d ts p
   pub only : (p : Program) → IsProgram d ts p → program d ts ≡ Ok (p, [])

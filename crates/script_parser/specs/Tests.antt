@@ -9,6 +9,7 @@ use Rattle.script_grammar.specs.Tokens.{Tok, Name, Kept, Integer, Text, Fixed}
 use Rattle.script_grammar.specs.Trees.{Lit, Number, Quote, True, False, Null, Undefined, Word, Named, Reserve}
 use Rattle.script_grammar.specs.Rules.{level_of, is_unary}
 
+-- a number for each sign
 abbrev pub code : Sign → ℕ
 code Same = 0
 code NotSame = 1
@@ -36,27 +37,33 @@ code Star = 22
 code Percent = 23
 code Not = 24
 
+-- this sign
 abbrev pub fixed : Sign → Tok → Option (Unit {0})
 fixed s (Fixed r) = if code s == code r then Some tt else None
 fixed s _ = None
 
+-- this word that is no name
 abbrev pub kept_as : Reserved → Tok → Option (Unit {0})
 kept_as w (Kept r) = if word_code w == word_code r then Some tt else None
 kept_as w _ = None
 
+-- a name, with the number of its token
 abbrev pub name_of : Tok → Option (ℕ × List ℕ)
 name_of (Name at bytes) = Some (at, bytes)
 name_of _ = None
 
+-- the value of a text
 abbrev pub text_of : Tok → Option (List ℕ)
 text_of (Text bytes) = Some bytes
 text_of _ = None
 
+-- a word in the place of a key
 abbrev pub word_of : Tok → Option Word
 word_of (Name at bytes) = Some (Named at bytes)
 word_of (Kept r) = Some (Reserve r)
 word_of _ = None
 
+-- an integer, a text or a word that is a value
 abbrev pub lit_of : Tok → Option Lit
 lit_of (Integer n) = Some (Number n)
 lit_of (Text bytes) = Some (Quote bytes)
@@ -66,18 +73,22 @@ lit_of (Kept kept.Null) = Some Null
 lit_of (Kept kept.Undefined) = Some Undefined
 lit_of _ = None
 
+-- a sign that stands before an operand
 abbrev pub unary_of : Tok → Option Sign
 unary_of (Fixed s) = if is_unary s then Some s else None
 unary_of _ = None
 
+-- a binary operator of this level
 abbrev pub link_of : ℕ → Tok → Option Sign
 link_of k (Fixed s) = if level_of s == k then Some s else None
 link_of k _ = None
 
+-- whether there is one
 abbrev pub is_some : {A : Type 0} → Option A → Bool
 is_some None = false
 is_some (Some a) = true
 
+-- whether a token is this sign
 abbrev pub is : Sign → Tok → Bool
 is s t = is_some (fixed s t)
 
@@ -85,6 +96,7 @@ is s t = is_some (fixed s t)
 pub data AtomForm : Type 0 where
   RoundForm ListForm ObjectForm VarForm OtherForm : AtomForm
 
+-- by its first token
 abbrev pub atom_form : Option Tok → AtomForm
 atom_form (Some (Fixed OpenRound)) = RoundForm
 atom_form (Some (Fixed OpenSquare)) = ListForm
@@ -92,17 +104,21 @@ atom_form (Some (Fixed OpenBrace)) = ObjectForm
 atom_form (Some (Name at bytes)) = VarForm
 atom_form _ = OtherForm
 
+-- what a member of an object literal may begin with
 pub data PropForm : Type 0 where
   NameForm QuotedForm WordForm : PropForm
 
+-- by its first token
 abbrev pub prop_form : Option Tok → PropForm
 prop_form (Some (Name at bytes)) = NameForm
 prop_form (Some (Text bytes)) = QuotedForm
 prop_form _ = WordForm
 
+-- what a statement may begin with
 pub data StmtForm : Type 0 where
   BlockForm EmptyForm IfForm ReturnForm ThrowForm DeleteForm ExprForm : StmtForm
 
+-- by its first token
 abbrev pub stmt_form : Option Tok → StmtForm
 stmt_form (Some (Fixed OpenBrace)) = BlockForm
 stmt_form (Some (Fixed Semicolon)) = EmptyForm
@@ -112,35 +128,42 @@ stmt_form (Some (Kept kept.Throw)) = ThrowForm
 stmt_form (Some (Kept kept.Delete)) = DeleteForm
 stmt_form _ = ExprForm
 
+-- what a declaration or a statement may begin with
 pub data ItemForm : Type 0 where
   ConstForm LetForm PlainForm : ItemForm
 
+-- by its first token
 abbrev pub item_form : Option Tok → ItemForm
 item_form (Some (Kept kept.Const)) = ConstForm
 item_form (Some (Kept kept.Let)) = LetForm
 item_form _ = PlainForm
 
--- the next token is this sign, this word
+-- the next token is this sign
 abbrev pub sees : Sign → Option Tok → Bool
 sees s None = false
 sees s (Some t) = is_some (fixed s t)
 
+-- the next token is this word
 abbrev pub sees_word : Reserved → Option Tok → Bool
 sees_word w None = false
 sees_word w (Some t) = is_some (kept_as w t)
 
+-- the next token is a sign that stands before an operand
 abbrev pub sees_unary : Option Tok → Bool
 sees_unary None = false
 sees_unary (Some t) = is_some (unary_of t)
 
+-- a step to a member begins with it
 abbrev pub begins_suffix : Tok → Bool
 begins_suffix (Fixed Dot) = true
 begins_suffix (Fixed OpenSquare) = true
 begins_suffix _ = false
 
+-- an operator of this level
 abbrev pub begins_link : ℕ → Tok → Bool
 begins_link k t = is_some (link_of k t)
 
+-- a block goes on with it
 abbrev pub in_block : Tok → Bool
 in_block (Fixed CloseBrace) = false
 in_block _ = true

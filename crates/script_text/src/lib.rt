@@ -1,5 +1,5 @@
 //! What a script is made of: signs, words that are no names, and tokens; in `specs/` what bytes spell
-//! which tokens, and the grammar over them.
+//! which tokens.
 #![tactic(auto)]
 
 mod sign;

@@ -17,10 +17,12 @@ is_long_text s = nat_lt 1024 (length s)
 abbrev pub is_reserved_text : List ℕ → Bool
 is_reserved_text s = bytes_eq s (codes "__proto__") || bytes_eq s (codes "constructor") || bytes_eq s (codes "prototype")
 
+-- a key that is such a text
 abbrev pub is_long_key : Key → Bool
 is_long_key (Text s) = is_long_text s
 is_long_key _ = false
 
+-- a key that is such a name
 abbrev pub is_reserved_key : Key → Bool
 is_reserved_key (Text s) = is_reserved_text s
 is_reserved_key _ = false
@@ -31,6 +33,7 @@ abbrev mutual
   has_long_key (prim k) = false
   has_long_key (node kind es) = any_long_key es
 
+  -- the same of entries
   pub any_long_key : Entries → Bool
   any_long_key none = false
   any_long_key (entry k v es) = is_long_key k || has_long_key v || any_long_key es
@@ -41,10 +44,12 @@ is_reserved_at kind.Obj k = is_reserved_key k
 is_reserved_at _ k = false
 
 abbrev mutual
+  -- some key of an object is reserved
   pub has_reserved_key : Plain → Bool
   has_reserved_key (prim k) = false
   has_reserved_key (node kind es) = any_reserved_key kind es
 
+  -- the same of entries, in a container of this kind
   pub any_reserved_key : Kind → Entries → Bool
   any_reserved_key kind none = false
   any_reserved_key kind (entry k v es) = is_reserved_at kind k || has_reserved_key v || any_reserved_key kind es

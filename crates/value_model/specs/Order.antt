@@ -9,6 +9,7 @@ use Rattle.std.specs.Cmp.Lexicographic.{slice_cmp}
 use Rattle.value_model.specs.declared.key.Key.{Key}
 use Rattle.value_model.specs.declared.key.Key.TheVariants.{Null, Bool, Int, Text}
 
+-- the place of a key's kind in the order
 abbrev pub rank : Key → ℕ
 rank Null = 0
 rank (Bool false) = 1
@@ -16,14 +17,17 @@ rank (Bool true) = 2
 rank (Int n) = 3
 rank (Text s) = 4
 
+-- the value of an integer
 abbrev pub number : Key → ℤ
 number (Int n) = n
 number _ = pos 0
 
+-- the bytes of a text
 abbrev pub letters : Key → List ℕ
 letters (Text s) = s
 letters _ = []
 
+-- by kind, then by value, then by bytes
 abbrev pub key_cmp : Key → Key → Ordering
 key_cmp = then_cmp (on rank nat_cmp) (then_cmp (on number int_cmp) (on letters (slice_cmp nat_cmp)))
 
@@ -35,6 +39,7 @@ key_from (suc (suc zero)) n s = Bool true
 key_from (suc (suc (suc zero))) n s = Int n
 key_from (suc (suc (suc (suc r)))) n s = Text s
 
+-- a key is told by its parts
 pub key_from-parts : (k : Key) → key_from (rank k) (number k) (letters k) ≡ k
 key_from-parts Null = refl
 key_from-parts (Bool false) = refl
@@ -51,6 +56,7 @@ both_equal Less p h = absurd (cc)
 both_equal Equal p h = (refl, h)
 both_equal Greater p h = absurd (cc)
 
+-- keys that compare as equal are one key
 pub key_exact : (a b : Key) → key_cmp a b ≡ Equal → a ≡ b
 key_exact a b h =
     let first = both_equal (nat_cmp (rank a) (rank b)) _ h in

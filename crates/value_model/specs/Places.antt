@@ -1,5 +1,5 @@
 -- Places of a value: looking up, setting and removing an entry, and the walk along a path.
-use Rattle.std.specs.Prelude.{◌≡◌, pos, Option, Some, None, Bool, true, not, List, [], ◌∷◌, map, slice_get}
+use Rattle.std.specs.Prelude.{pos, Option, Some, None, Bool, true, not, List, [], ◌∷◌, map, slice_get}
 use Rattle.std.specs.FinMap.Entries.{find, put, where_key, is_sorted}
 use Rattle.std.specs.Ordering.{eq_by_cmp}
 use Rattle.value_model.specs.declared.key.Key.{Key}
@@ -16,10 +16,12 @@ child_at kind.List _ es = None
 child_at kind.Set k es = None
 child_at _ k es = find key_cmp k es
 
+-- the child of a value; a primitive has none
 abbrev pub child : Key → Plain → Option Plain
 child k (prim j) = None
 child k (node kind es) = child_at kind k (list_of es)
 
+-- a walk that goes on, where something stands there
 abbrev pub then_at : (Plain → Option Plain) → Option Plain → Option Plain
 then_at f None = None
 then_at f (Some v) = f v
@@ -37,10 +39,6 @@ without_key k es = where_key key_cmp (λ j. not (eq_by_cmp key_cmp k j)) es
 abbrev pub set_key : Key → Plain → Plain → Plain
 set_key k w (prim j) = prim j
 set_key k w (node kind es) = node kind (entries (put key_cmp k w (list_of es)))
-
-abbrev pub IsOfKind : Kind → Plain → Type 0
-IsOfKind kind (prim j) = ⊥
-IsOfKind kind (node other es) = other ≡ kind
 
 -- whether the keys ascend, where there are keys
 abbrev pub ascends_at : Kind → List (Key × Plain) → Bool

@@ -1,5 +1,5 @@
 -- A plain value: a primitive, or a container of values under keys (JSON of RFC 8259, with the Map and Set of ECMA-262).
-use Rattle.std.specs.Prelude.{ℕ, ◌+◌, ◌-◌, ◌/◌, max, List, [], ◌∷◌, length}
+use Rattle.std.specs.Prelude.{ℕ, ◌+◌, max, List, [], ◌∷◌, length}
 use Rattle.value_model.specs.declared.key.Key.{Key}
 use Rattle.value_model.specs.declared.key.Key.TheVariants.{Text}
 use Rattle.value_model.specs.declared.words.Kind.{Kind}
@@ -19,11 +19,12 @@ mutual
 abbrev pub Table : Type 0
 Table = List (Key × Plain)
 
--- entries from a list, and back
+-- entries from a list
 abbrev pub entries : List (Key × Plain) → Entries
 entries [] = none
 entries (e ∷ es) = entry e.0 e.1 (entries es)
 
+-- entries as a list
 abbrev pub list_of : Entries → List (Key × Plain)
 list_of none = []
 list_of (entry k v es) = (k, v) ∷ list_of es
@@ -45,6 +46,7 @@ abbrev mutual
   weight (prim k) = key_weight k
   weight (node kind es) = 1 + weights kind es
 
+  -- entries together, in a container of this kind
   pub weights : Kind → Entries → ℕ
   weights kind none = 0
   weights kind (entry k v es) = place_weight kind k + weight v + weights kind es
@@ -55,6 +57,7 @@ abbrev mutual
   values (prim k) = 1
   values (node kind es) = 1 + values_in es
 
+  -- in entries together
   pub values_in : Entries → ℕ
   values_in none = 0
   values_in (entry k v es) = values v + values_in es
@@ -65,10 +68,7 @@ abbrev mutual
   depth (prim k) = 0
   depth (node kind es) = 1 + deepest es
 
+  -- the depth of the deepest entry
   pub deepest : Entries → ℕ
   deepest none = 0
   deepest (entry k v es) = max (depth v) (deepest es)
-
--- what a run pays for a value: a step for each value, and one for each 64 of what they weigh beyond that
-abbrev pub charge : Plain → ℕ
-charge v = values v + (weight v - values v) / 64

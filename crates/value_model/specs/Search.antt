@@ -1,15 +1,10 @@
 -- A search from the first key on: what was passed, and what is done where it ends.
-use Rattle.std.specs.Prelude.{◌≡◌, ℕ, ◌<◌, ◌≤◌, Some, None, List, [], ◌∷◌, map, length, refl}
-use Rattle.std.proofs.Common.{zero, suc, ap, sym, arith, get_or, set, Less, Equal, Greater}
+use Rattle.std.specs.Prelude.{◌≡◌, ℕ, ◌<◌, ◌≤◌, Bool, true, false, ◌&&◌, IsTrue, Some, None, List, [], ◌∷◌, map, length, refl}
+use Rattle.std.proofs.Common.{zero, suc, ap, sym, subst, ◌∙◌, ◌⊎◌, inl, inr, Result, Ok, Err, arith, get_or, set, Less, Equal, Greater}
 use Rattle.std.specs.List.{insert, remove}
-use Rattle.std.specs.FinMap.Entries.{find, put, is_sorted}
-use Rattle.std.specs.Prelude.{IsTrue, Bool, true, false}
-use Rattle.std.proofs.Common.{subst}
-use Rattle.std.proofs.Common.{◌∙◌, ◌⊎◌, inl, inr, Result, Ok, Err}
+use Rattle.std.specs.FinMap.Entries.{find, put, is_sorted, below_all}
 use Rattle.std.specs.declared.cmp.Ordering.{Ordering}
 use Rattle.std.specs.Ordering.{ordering_reverse, ordering_index, is_lt}
-use Rattle.std.specs.Prelude.{◌&&◌}
-use Rattle.std.specs.FinMap.Entries.{below_all}
 use Rattle.std.specs.List.Sorted.{IsSearchInRange, IsBinarySearchResult, IsNonDecreasingBy}
 use Rattle.value_model.specs.declared.key.Key.{Key}
 use Rattle.value_model.specs.Order.{key_cmp, key_total, key_exact}
@@ -103,9 +98,6 @@ module _ {X : Type 0} (f : X → Key × Plain) where
       }
 
 -- ---- what is at the place, and what removing the entry there leaves
-tail_sorted : (e : Key × Plain) (es : List (Key × Plain)) → IsTrue (is_sorted key_cmp (e ∷ es)) → IsTrue (is_sorted key_cmp es)
-tail_sorted e es h = right_true _ _ h
-
 -- a key below the first one isn't in the table
 pub none_below : (k x : Key) (es : List (Key × Plain)) → key_cmp k x ≡ Less → below_all key_cmp x es ≡ true → record { nothing : find key_cmp k es ≡ None; same : without_key k es ≡ es }
 none_below k x [] p h = record { nothing = refl; same = refl }

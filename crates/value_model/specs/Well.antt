@@ -19,15 +19,18 @@ fits kind.Map k v = true
 fits kind.Set k (prim j) = is_eq (key_cmp k j)
 fits kind.Set k _ = false
 
+-- each entry does
 abbrev pub all_fit : Kind → Entries → Bool
 all_fit kind none = true
 all_fit kind (entry k v es) = fits kind k v && all_fit kind es
 
 abbrev mutual
+  -- the keys of each level ascend and fit its kind
   pub well : Plain → Bool
   well (prim k) = true
   well (node kind es) = ascends_at kind (list_of es) && all_fit kind es && all_well es
 
+  -- each entry is in order
   pub all_well : Entries → Bool
   all_well none = true
   all_well (entry k v es) = well v && all_well es

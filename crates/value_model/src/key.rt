@@ -9,9 +9,13 @@ use std::cmp::Ordering;
 /// A primitive value, which is also what a key, a member of a Set or a step of a path is.
 #[derive(Debug, Drop)]
 pub enum Key {
+    /// Null.
     Null,
+    /// False or true.
     Bool(bool),
+    /// An integer of magnitude at most 2^53 - 1.
     Int(Safe),
+    /// A text of at most 2^20 bytes.
     Text(Text),
 }
 
@@ -24,16 +28,6 @@ impl Key {
             (Key::Int(a), Key::Int(b)) => a.get().cmp(&b.get()),
             (Key::Text(a), Key::Text(b)) => a.as_str().as_bytes().cmp(b.as_str().as_bytes()),
             _ => self.rank().cmp(&other.rank()),
-        }
-    }
-
-    /// How the key compares to a text.
-    pub fn compare_text(&self, other: &Text) -> Ordering
-        ensures { result ≡ key_cmp self.now (Key.Text other.now) }
-    {
-        match self {
-            Key::Text(text) => text.as_str().as_bytes().cmp(other.as_str().as_bytes()),
-            _ => self.rank().cmp(&4),
         }
     }
 

@@ -16,8 +16,11 @@ pub enum Kind {
 /// The operation of a patch, as Immer 10 names them.
 #[derive(Clone, Copy, Debug, Drop, PartialEq, Eq)]
 pub enum Op {
+    /// Sets an entry of an object or a Map, inserts an element into a list, or adds a member to a Set.
     Add,
+    /// Sets an entry of an object or a Map, an element of a list or its length, or the whole value.
     Replace,
+    /// Takes away an entry, an element of a list, or a member of a Set.
     Remove,
 }
 
@@ -54,7 +57,7 @@ pub enum PatchWhy {
     #[error("nothing in a Set can be replaced")]
     SetReplace,
     /// An index of a list that is negative or past its end, or a length past its end.
-    #[error("an index is past the end of its list")]
+    #[error("an index or a length is not within its list")]
     Hole,
     /// A patch has no value that needs one: one that writes, one that removes a member of a Set, the last one that replaces the root.
     #[error("a patch that writes has no value")]

@@ -6,6 +6,7 @@ abbrev pub and_then : {A B E : Type 0} → (A → Result B E) → Result A E →
 and_then f (Ok a) = f a
 and_then f (Err e) = Err e
 
+-- what f makes of a value that was answered
 abbrev pub result_map : {A B E : Type 0} → (A → B) → Result A E → Result B E
 result_map f (Ok a) = Ok (f a)
 result_map f (Err e) = Err e

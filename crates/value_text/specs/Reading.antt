@@ -28,10 +28,12 @@ safe_of (unsigned n) = if nat_le n 9007199254740991 then Some (pos n) else None
 safe_of (negative z) = if int_lt (negsuc 9007199254740991) z then Some z else None
 safe_of (float x) = None
 
+-- the integer, or its fault where there is none
 abbrev safe_or_fault : Option ℤ → Result ℤ JsonWhy
 safe_or_fault (Some z) = Ok z
 safe_or_fault None = Err why.NotSafeInteger
 
+-- the integer that a number is
 abbrev pub safe_from : Num → Result ℤ JsonWhy
 safe_from n = safe_or_fault (safe_of n)
 
@@ -48,11 +50,13 @@ key_from (string s) = result_map key.Text (text_from s)
 key_from (array ds) = Err why.BadTag
 key_from (object ms) = Err why.BadTag
 
+-- no array and no object
 abbrev pub is_primitive : Data → Bool
 is_primitive (array ds) = false
 is_primitive (object ms) = false
 is_primitive _ = true
 
+-- each element is primitive
 abbrev pub are_primitive : Items → Bool
 are_primitive no_items = true
 are_primitive (item d ds) = is_primitive d && are_primitive ds
@@ -65,13 +69,16 @@ Table = List (Key × Plain)
 abbrev pub new_key : Table → Key → Result Key JsonWhy
 new_key found k = if is_some (find key_cmp k found) then Err why.DuplicateKey else Ok k
 
+-- the key that data is, where the table doesn't have it yet
 abbrev pub new_key_from : Data → Table → Result Key JsonWhy
 new_key_from d found = and_then (new_key found) (key_from d)
 
+-- the table with these members, in turn
 abbrev pub set_members : Items → Table → Result Table JsonWhy
 set_members no_items found = Ok found
 set_members (item d ds) found = and_then (λ k. set_members ds (put key_cmp k (prim k) found)) (new_key_from d found)
 
+-- the Set of these members
 abbrev pub set_of : Items → Result Plain JsonWhy
 set_of ds = if are_primitive ds then result_map (λ es. node kind.Set (entries es)) (set_members ds []) else Err why.BadTag
 
@@ -88,6 +95,7 @@ with_field name value rest = and_then (λ s. and_then (λ v. result_map (entry (
 abbrev pub one_field : List ℕ → Result Plain JsonWhy → Result Plain JsonWhy
 one_field name value = result_map (node kind.Obj) (with_field name value (Ok none))
 
+-- an element of a list, before those that follow
 abbrev pub with_element : Result Plain JsonWhy → Result Entries JsonWhy → Result Entries JsonWhy
 with_element value rest = and_then (λ v. result_map (entry key.Null v) rest) value
 
@@ -109,10 +117,12 @@ abbrev mutual
   walked (array ds) = result_map (node kind.List) (elements ds)
   walked (object ms) = object_in ms
 
+  -- the elements of a list
   pub elements : Items → Result Entries JsonWhy
   elements no_items = Ok none
   elements (item d ds) = with_element (walked d) (elements ds)
 
+  -- the entries of an object
   pub fields : Members → Result Entries JsonWhy
   fields no_members = Ok none
   fields (member name d ms) = with_field name (walked d) (fields ms)
@@ -133,6 +143,7 @@ abbrev mutual
   map_in (array ds) = result_map (λ es. node kind.Map (entries es)) (map_pairs ds [])
   map_in _ = Err why.BadTag
 
+  -- the table with these pairs, in turn
   pub map_pairs : Items → Table → Result Table JsonWhy
   map_pairs no_items found = Ok found
   map_pairs (item d ds) found = and_then (map_pairs ds) (map_pair d found)
@@ -142,10 +153,12 @@ abbrev mutual
   map_pair (array ds) found = pair_in ds found
   map_pair _ found = Err why.BadTag
 
+  -- the table with the pair that an array of two is
   pub pair_in : Items → Table → Result Table JsonWhy
   pair_in (item k (item d no_items)) found = with_pair k (walked d) found
   pair_in _ found = Err why.BadTag
 
+-- what was read, where the value is past no limit
 abbrev pub limited_by : {X : Type 0} → X → Option Limit → Result X JsonWhy
 limited_by x None = Ok x
 limited_by x (Some l) = Err (why.Limit l)

@@ -4,7 +4,7 @@ use value_model::Limit;
 /// Why a text is no value, no path or no list of patches.
 #[derive(Clone, Copy, Debug, Drop, PartialEq, Eq, Error)]
 pub enum JsonWhy {
-    /// The bytes are no JSON text (RFC 8259) that nests at most 127 deep.
+    /// The bytes are no JSON text (RFC 8259) that nests at most 127 deep, or a number in it is past a double's range (`1e400`).
     #[error("the bytes are no JSON text")]
     NotJson,
     /// A number has a fraction, an exponent, a minus before a zero, or a magnitude above 2^53 - 1.

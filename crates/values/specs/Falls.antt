@@ -28,6 +28,7 @@ most_items : (kind : Kind) (vs : List Plain) → most (λ v. values v + 1) vs �
 most_items kind [] = omega arith
 most_items kind (v ∷ vs) = omega (arith, most_items kind vs)
 
+-- what is inside a node is no larger than its count of values
 pub falls : (n : Node) → deep-Node n ≤ values (plain_of n)
 falls (Prim k) = omega arith
 falls (Obj fields) = omega (arith, most_fields kind.Obj fields.items)

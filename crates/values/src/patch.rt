@@ -48,8 +48,11 @@ impl Path {
 /// A change at one place, in the form of Immer 10.
 #[derive(Drop)]
 pub struct Patch {
+    /// What is done.
     pub op: Op,
+    /// The steps to the place, from the whole value on; none where the whole value is replaced.
     pub path: Path,
+    /// The value that is set or inserted, in a Set the member that is added or removed; None for another removal.
     pub value: Option<Val>,
 }
 

@@ -12,6 +12,7 @@ use value_model::{Key, Text};
 #[cycle(val)]
 #[derive(Drop)]
 pub struct Val {
+    /// The primitive, or the container with all that is in it.
     pub node: Node,
 }
 
@@ -19,10 +20,15 @@ pub struct Val {
 #[cycle(val)]
 #[derive(Drop)]
 pub enum Node {
+    /// A primitive: null, a boolean, an integer or a text.
     Prim(Key),
+    /// An object, by its entries.
     Obj(Vec<Field>),
+    /// A list, by its elements.
     List(Vec<Val>),
+    /// A Map, by its entries.
     Map(Vec<Entry>),
+    /// A Set, by its members, which are primitives.
     Set(Vec<Key>),
 }
 
@@ -30,7 +36,9 @@ pub enum Node {
 #[cycle(val)]
 #[derive(Drop)]
 pub struct Field {
+    /// Its name, of at most 2^20 bytes.
     pub key: Text,
+    /// What stands under the name.
     pub value: Val,
 }
 
@@ -38,7 +46,9 @@ pub struct Field {
 #[cycle(val)]
 #[derive(Drop)]
 pub struct Entry {
+    /// Its key, a primitive.
     pub key: Key,
+    /// What stands under the key.
     pub value: Val,
 }
 
