@@ -1,3 +1,5 @@
 pub mod Pieces
+pub mod Places
+pub mod Sizes
 pub mod Spans
 pub mod Turns

@@ -21,12 +21,13 @@ passed zero at bytes = rw (add-zero at) refl
 passed (suc k) at [] = refl
 passed (suc k) at (b ∷ rest) = let e : at + suc k ≡ at + 1 + k = omega arith in rw e (passed k (at + 1) rest)
 
-cut : Piece → ℕ → List ℕ → Result (List Token) LexFault
+-- the tokens of a piece and of what stands behind it
+unfoldable pub cut : Piece → ℕ → List ℕ → Result (List Token) LexFault
 cut (piece.Blank n) at rest = tokens_from (n - 1) (at + 1) rest
 cut (piece.Token k n) at rest = with_token (record { kind = k; start = at; end = at + n }) (tokens_from (n - 1) (at + 1) rest)
 cut (piece.Wrong c) at rest = Err (fault_at c at)
 
-cons_is : (at b : ℕ) (rest : List ℕ) → tokens_from 0 at (b ∷ rest) ≡ cut (piece_at (b ∷ rest)) at rest
+pub cons_is : (at b : ℕ) (rest : List ℕ) → tokens_from 0 at (b ∷ rest) ≡ cut (piece_at (b ∷ rest)) at rest
 unfolding tokens_from cut
 cons_is at b rest = go (piece_at (b ∷ rest))
   where

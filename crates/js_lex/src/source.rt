@@ -26,13 +26,21 @@ impl Model for Tokens {
 }
 
 impl Tokens {
-    /// These tokens.
+    /// These tokens. It takes no memory.
     pub fn from_vec(tokens: Vec<Token>) -> Tokens
         ensures { result ≡ tokens.items }
     {
         Tokens { tokens }
     }
 
+    /// The tokens. It takes no memory.
+    pub fn into_vec(self) -> Vec<Token>
+        ensures { result.items ≡ self }
+    {
+        self.tokens
+    }
+
+    /// The tokens, to be read.
     pub fn as_slice(&self) -> &[Token]
         ensures { result.now ≡ self.now }
     {

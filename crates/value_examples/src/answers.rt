@@ -1,12 +1,35 @@
 use plain_apply::{ApplyFault, apply_plain};
 use std::alloc::{AllocError, Global};
-use value_json::{JsonFault, JsonWhy, read_patches, read_value, write_value};
-use values::{Limit, PatchWhy, Val};
+use value_json::{
+    JsonFault, JsonWhy, read_patches, read_path, read_value, write_patches, write_value,
+};
+use values::{Key, Limit, PatchWhy, Path, Val};
 
 /// The compact text of the value that the bytes are, or the name of their first fault.
 pub fn answer(alloc: Global, bytes: &[u8]) -> Result<String, AllocError> {
     match read_value(alloc, bytes) {
         Ok(value) => text_of(alloc, &value),
+        Err(JsonFault::Memory) => Err(AllocError),
+        Err(JsonFault::Refused(why)) => String::from_str(alloc, json_name(why)),
+    }
+}
+
+/// The compact text of the patches that the bytes are, or the name of their first fault.
+pub fn patches_answer(alloc: Global, bytes: &[u8]) -> Result<String, AllocError> {
+    match read_patches(alloc, bytes) {
+        Ok(patches) => {
+            let text = write_patches(alloc, &patches)?;
+            String::from_str(alloc, text.as_str())
+        }
+        Err(JsonFault::Memory) => Err(AllocError),
+        Err(JsonFault::Refused(why)) => String::from_str(alloc, json_name(why)),
+    }
+}
+
+/// The steps of the path that the bytes are, with their kinds, or the name of the first fault.
+pub fn path_answer(alloc: Global, bytes: &[u8]) -> Result<String, AllocError> {
+    match read_path(alloc, bytes) {
+        Ok(path) => steps_text(alloc, &path),
         Err(JsonFault::Memory) => Err(AllocError),
         Err(JsonFault::Refused(why)) => String::from_str(alloc, json_name(why)),
     }
@@ -33,6 +56,33 @@ pub fn patched(alloc: Global, state: &[u8], patches: &[u8]) -> Result<String, Al
 fn text_of(alloc: Global, value: &Val) -> Result<String, AllocError> {
     let text = write_value(alloc, value)?;
     String::from_str(alloc, text.as_str())
+}
+
+fn steps_text(alloc: Global, path: &Path) -> Result<String, AllocError> {
+    let mut out = String::new(alloc);
+    for (i, step) in path.as_slice().iter().enumerate() {
+        if i > 0 {
+            out.push_str(", ")?;
+        }
+        out.push_str(step_text(alloc, step)?.as_str())?;
+    }
+    Ok(out)
+}
+
+fn step_text(alloc: Global, step: &Key) -> Result<String, AllocError> {
+    match step {
+        Key::Null => String::from_str(alloc, "null"),
+        Key::Bool(false) => String::from_str(alloc, "false"),
+        Key::Bool(true) => String::from_str(alloc, "true"),
+        Key::Int(n) => {
+            let number = n.get();
+            format!(in alloc; "integer {number}")
+        }
+        Key::Text(text) => {
+            let letters = text.as_str();
+            format!(in alloc; "text {letters}")
+        }
+    }
 }
 
 fn json_name(why: JsonWhy) -> &'static str {

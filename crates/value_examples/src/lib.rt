@@ -1,4 +1,4 @@
-//! Worked examples of values: their JSON, their limits, and patches on them.
+//! Worked examples of values: their JSON, their limits, patches on them, and the JSON of patches and paths.
 #![tactic(auto)]
 
 mod answers;
@@ -8,5 +8,7 @@ mod json_cases;
 mod limit_cases;
 #[cfg(test)]
 mod patch_cases;
+#[cfg(test)]
+mod text_cases;
 
-pub use answers::{answer, patched};
+pub use answers::{answer, patched, patches_answer, path_answer};
