@@ -140,10 +140,10 @@ stands_as ts s t st b sound = record {
 abbrev pub changed_content : Change → Content → Content
 changed_content change c = rewritten (changed change c.table) c
 
-own_draft : (s : Scope) (n : ℕ) → n < s.drafts → own_content s n ≡ get nat_cmp s.touched n
+pub own_draft : (s : Scope) (n : ℕ) → n < s.drafts → own_content s n ≡ get nat_cmp s.touched n
 own_draft s n l = let yes : nat_lt n s.drafts ≡ true = grind (arith, l) in rw yes refl
 
-own_later : (s : Scope) (n : ℕ) → s.drafts ≤ n → own_content s n ≡ slice_get s.later.items (n - s.drafts)
+pub own_later : (s : Scope) (n : ℕ) → s.drafts ≤ n → own_content s n ≡ slice_get s.later.items (n - s.drafts)
 own_later s n l = let no : nat_lt n s.drafts ≡ false = grind (arith, l) in rw no refl
 
 if_some : (o p : Option Content) (P Q : Content → Type 0) → o ≡ p → IfSome p P → ((c : Content) → p ≡ Some c → P c → Q c) → IfSome o Q

@@ -11,7 +11,7 @@ use Rattle.value_model.specs.Search.{right_true}
 use Rattle.numbered.specs.Laws.{extends_take, containers_at, of_number, place_of}
 use Rattle.numbered.specs.Store.{IsNumber, IsStore, IsOf, tree_at}
 use Rattle.numbered.specs.Tree.{Tree, prim, node, containers, containers_in, branches_of, before, place}
-use Rattle.node_store.specs.Nodes.{cell_of}
+use Rattle.node_store.specs.Nodes.{cell_of, cells_of}
 use Rattle.node_store.specs.Tables.{cell_again}
 use Rattle.node_store.specs.declared.node.Cell.TheVariants as cell
 use Rattle.run_heap.specs.declared.value.ObjRef.{ObjRef}
@@ -22,8 +22,8 @@ use Rattle.run_heap.specs.declared.value.Given.TheVariants as given
 use Rattle.run_heap.specs.declared.fault.DraftFault.{DraftFault}
 use Rattle.run_heap.specs.declared.fault.DraftFault.TheVariants as fault
 use Rattle.run_heap.specs.Answers.{Answers}
-use Rattle.draft_slots.specs.Looks.{Fit, looked}
-use Rattle.draft_slots.specs.LookFacts.{rows_node}
+use Rattle.draft_slots.specs.Looks.{Fit, IsLook, looked}
+use Rattle.draft_slots.specs.LookFacts.{rows_node, source_node}
 use Rattle.draft_slots.specs.Peeks.{IsKept}
 use Rattle.draft_slots.specs.declared.look.Look.{Look}
 use Rattle.draft_slots.specs.declared.look.Look.TheVariants.{Own, Node}
@@ -34,9 +34,10 @@ use Rattle.run_heap.specs.Heap.{Heap, copied, opened, drafts, is_draft, is_forei
 use Rattle.run_heap.specs.Laws.{get_none, no_place, place_within, opened_sound, shown_content, value_stored}
 use Rattle.run_heap.specs.Operations as spec
 use Rattle.run_heap.specs.Places.{path_to}
-use Rattle.run_heap.specs.Sound.{IsSound, IsContent, IsContainer, IsObject, IsStored, RowsStored, Owned, ascends}
+use Rattle.run_heap.specs.Sound.{IsSound, IsContent, IsContainer, IsObject, IsStored, HasSource, RowsStored, Owned, ascends}
 use Rattle.draft_core.specs.declared.scope.Scope.{Scope}
 use Rattle.draft_core.specs.Seen.{heap, Stands, IsPeek, kept_heap, kept_object}
+use Rattle.draft_core.specs.Tables.{own_table, own_look}
 
 -- ---- the store that has grown
 pub same_tree : (ts : List Tree) (n id : ℕ) → IsNumber (take n ts) id → tree_at (take n ts) id ≡ tree_at ts id
@@ -119,7 +120,7 @@ pub owns_object : (ts : List Tree) (s : Scope) (v : Rv) (r : ObjRef) → v ≡ O
 owns_object ts s v r is = rw (is, scope_is ts s) (sym (twice_not (r.scope == s.number)))
 
 -- ---- the object of a name
-get_in : (cs : List Content) (i : ℕ) (d : Content) → i < length cs → slice_get cs i ≡ Some (get_or cs i d)
+pub get_in : (cs : List Content) (i : ℕ) (d : Content) → i < length cs → slice_get cs i ≡ Some (get_or cs i d)
 get_in [] i d l = absurd (omega arith)
 get_in (c ∷ cs) zero d l = refl
 get_in (c ∷ cs) (suc i) d l = get_in cs i d (omega arith)
@@ -268,10 +269,13 @@ marked_later ts s n o low e =
     let there : (heap ts s).object n ≡ o = object_is ts s n ∙ rw no e in
     ap spec.is_marked there
 
+given_unmarked : (g : Given) (t : Tree) → spec.is_marked (given_content g t) ≡ false
+given_unmarked g (prim k) = refl
+given_unmarked g (node id of es) = refl
+
 unmarked : (scope n : ℕ) (t : Option Tree) → spec.is_marked (copied scope n t) ≡ false
 unmarked scope n None = refl
-unmarked scope n (Some (prim k)) = refl
-unmarked scope n (Some (node id of es)) = refl
+unmarked scope n (Some t) = given_unmarked (given.From (record { scope = scope; slot = n + 1 })) t
 
 pub marked_touched : (ts : List Tree) (s : Scope) (n : ℕ) (o : Option Content) → n < s.drafts → get nat_cmp s.touched n ≡ o → spec.is_marked ((heap ts s).object n) ≡ spec.is_marked o
 marked_touched ts s n (Some c) l e = ap spec.is_marked (touched_is ts s n (Some c) l e)
@@ -292,11 +296,32 @@ pub get_past : (cs ds : List Content) (i : ℕ) → ds ≡ cs → length ds ≤ 
 get_past cs ds i e l = get_none cs i (subst (λ (xs : List Content). length xs ≤ i) e l)
 
 -- ---- a value as it is kept
-pub peek_is : (ts : List Tree) (h : Heap) (of : Rv) (l : Look) (i : ℕ) (p : Peek) → looked ts l ≡ shown h of → IsKept ts l i p → IsPeek h of i p
-peek_is ts h of (Own c) i (Read v) e k = rw (sym e) k
-peek_is ts h of (Own c) i (Untouched d) e k = absurd k
-peek_is ts h of (Node id g) i (Read v) e k = absurd k
-peek_is ts h of (Node id g) i (Untouched d) e k = (after g (before i (branches_of (tree_at ts id))), ap (λ (o : Option Content). spec.value_at i (spec.rows_of o)) (sym e) ∙ ap (spec.value_at i) (rows_node g (tree_at ts id)) ∙ k)
+-- the container that another was opened on was there at the beginning
+source_number : (h : Heap) (of : Rv) (id : ℕ) → IsSound h → IsContainer h of → Some id ≡ spec.source h of → IsNumber h.states id
+source_number h Undefined id s c e = absurd c
+source_number h (Prim k) id s c e = absurd c
+source_number h (Obj r) id s c e = subst (HasSource h) (sym e) (s.sources r.slot)
+source_number h (Frozen j) id s c e = subst (HasSource h) (source_node h.states given.Frozen j s.store c ∙ sym e) c
+
+pub peek_is : (ts : List Tree) (s : Scope) (of : Rv) (l : Look) (i : ℕ) (p : Peek) → Stands ts s → IsContainer (heap ts s) of → looked ts l ≡ shown (heap ts s) of → IsLook ts l → own_table s of ≡ own_look l → IsKept ts l i p → IsPeek ts s of i p
+peek_is ts s of (Own c) i (Read v) st o e look own k = rw (sym e) k
+peek_is ts s of (Own c) i (Untouched d) st o e look own k = absurd k
+peek_is ts s of (Node id g) i (Read v) st o e look own k = absurd k
+peek_is ts s of (Node id g) i (Untouched d) st o e look own k =
+    let h = heap ts s in
+    let t = tree_at ts id in
+    let opened = source_node ts g id look.0 look.1 ∙ ap spec.source_in e in
+    let number = subst (λ (us : List Tree). IsNumber us id) (states_are ts s) (source_number h of id st.sound o opened) in
+    let here = ap (λ (us : List Tree). tree_at us id) (states_are ts s) ∙ same_tree ts s.len id number in
+    record {
+      own = own;
+      unmarked = ap spec.is_marked (sym e) ∙ given_unmarked g t;
+      node = id;
+      opened = sym opened;
+      cell = ap (λ (u : Tree). slice_get (cells_of u) i) here ∙ k.there;
+      given = after g (before i (branches_of t));
+      value = ap (λ (x : Option Content). spec.value_at i (spec.rows_of x)) (sym e) ∙ ap (spec.value_at i) (rows_node g t) ∙ k.value;
+    }
 
 -- ---- the path of a draft
 pub draft_path : (ts : List Tree) (s : Scope) (v : Rv) (r : ObjRef) → Stands ts s → v ≡ Obj r → path_to r.slot (tree_at ts s.root) ≡ path_to (spec.slot_of v) (tree_at (heap ts s).states (heap ts s).root)

@@ -1,5 +1,5 @@
 -- The heap that a scope stands for, over a store that extends the one at its beginning.
-use Rattle.std.specs.Prelude.{◌≡◌, ℕ, ◌+◌, ◌-◌, ◌≤◌, List, length, take, Option, Some, nat_lt, if◌then◌else◌, slice_get}
+use Rattle.std.specs.Prelude.{◌≡◌, ℕ, ◌+◌, ◌-◌, ◌≤◌, List, length, take, Option, Some, None, false, nat_lt, if◌then◌else◌, slice_get}
 use Rattle.std.specs.BTreeMap.{get}
 use Rattle.std.specs.Option.{option_or}
 use Rattle.std.specs.Ordering.{nat_cmp}
@@ -7,12 +7,15 @@ use Rattle.numbered.specs.Store.{IsNumber, IsStore, tree_at}
 use Rattle.numbered.specs.Tree.{Tree, containers, place}
 use Rattle.run_heap.specs.declared.value.Rv.{Rv}
 use Rattle.run_heap.specs.declared.value.Given.{Given}
+use Rattle.node_store.specs.Nodes.{cells_of}
+use Rattle.node_store.specs.declared.node.Cell.{Cell}
 use Rattle.draft_slots.specs.Nodes.{given_cell}
 use Rattle.run_heap.specs.declared.content.Content.{Content}
 use Rattle.run_heap.specs.Heap.{Heap, copied}
-use Rattle.run_heap.specs.Operations.{table_of, value_at}
+use Rattle.run_heap.specs.Operations.{table_of, value_at, source, marked}
 use Rattle.run_heap.specs.Sound.{IsSound}
 use Rattle.draft_core.specs.declared.scope.Scope.{Scope}
+use Rattle.draft_core.specs.Tables.{own_table}
 use Rattle.draft_slots.specs.declared.look.Peek.{Peek}
 use Rattle.draft_slots.specs.declared.look.Peek.TheVariants.{Read, Untouched}
 
@@ -45,7 +48,17 @@ pub record Stands (ts : List Tree) (s : Scope) : Type 0 where
   pub drafts : s.drafts ≡ containers (tree_at (take s.len ts) s.root)
   pub sound : IsSound (heap ts s)
 
--- the i-th value of a container as it is kept: a value, or a cell of a node, whose containers are given out
-abbrev pub IsPeek : Heap → Rv → ℕ → Peek → Type 0
-IsPeek h of i (Read v) = value_at i (table_of h of) ≡ Some v.now
-IsPeek h of i (Untouched c) = (g : Given) × (value_at i (table_of h of) ≡ Some (given_cell g c.now))
+-- the i-th cell of the node that a container was opened on, which has no table of its own: its containers are given out
+pub record IsUntouched (ts : List Tree) (s : Scope) (of : Rv) (i : ℕ) (c : Cell) : Type 0 where
+  pub own : own_table s of ≡ None
+  pub unmarked : marked (heap ts s) of ≡ false
+  pub node : ℕ
+  pub opened : source (heap ts s) of ≡ Some node
+  pub cell : slice_get (cells_of (tree_at (heap ts s).states node)) i ≡ Some c
+  pub given : Given
+  pub value : value_at i (table_of (heap ts s) of) ≡ Some (given_cell given c)
+
+-- the i-th value of a container as it is kept: a value, or a cell where the container has no value there yet
+abbrev pub IsPeek : List Tree → Scope → Rv → ℕ → Peek → Type 0
+IsPeek ts s of i (Read v) = value_at i (table_of (heap ts s) of) ≡ Some v.now
+IsPeek ts s of i (Untouched c) = IsUntouched ts s of i c.now

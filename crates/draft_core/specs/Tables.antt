@@ -4,8 +4,12 @@ use Rattle.std.specs.Vec.{vec_capacity, vec_len}
 use Rattle.std.specs.BTreeMap.{get}
 use Rattle.std.specs.Ordering.{nat_cmp}
 use Rattle.run_heap.specs.declared.content.Content.{Content}
+use Rattle.run_heap.specs.declared.value.Rv.{Rv}
+use Rattle.run_heap.specs.declared.value.Rv.TheVariants.{Obj}
 use Rattle.draft_slots.specs.declared.change.Change.{Change}
 use Rattle.draft_slots.specs.Looks.{MayChange}
+use Rattle.draft_slots.specs.declared.look.Look.{Look}
+use Rattle.draft_slots.specs.declared.look.Look.TheVariants.{Own, Node}
 use Rattle.draft_core.specs.declared.scope.Scope.{Scope}
 
 -- the content that is kept at a name
@@ -14,6 +18,16 @@ own_content s n = if nat_lt n s.drafts then get nat_cmp s.touched n else slice_g
 
 abbrev pub HasTable : Scope → ℕ → Type 0
 HasTable s n = own_content s n ≢ None
+
+-- the content that a container has of its own, if it has one
+abbrev pub own_table : Scope → Rv → Option Content
+own_table s (Obj r) = own_content s r.slot
+own_table s _ = None
+
+-- the same by a look at it
+abbrev pub own_look : Look → Option Content
+own_look (Own c) = Some c.now
+own_look (Node id g) = None
 
 abbrev pub MayRewrite : Change → Option Content → Type 0
 MayRewrite change None = ⊥

@@ -1,5 +1,5 @@
 //! Calls that make objects.
-ghost use Rattle.std.specs.Prelude.{◌≡◌, ◌+◌, ◌≤◌, [], List, None};
+ghost use Rattle.std.specs.Prelude.{◌≡◌, ◌+◌, ◌≤◌, [], IfOk, List, None};
 ghost use Rattle.numbered.specs.Tree.{Tree};
 ghost use Rattle.value_model.specs.Limits.{value_limit};
 ghost use Rattle.value_model.specs.declared.words.Kind.TheVariants as kind;
@@ -7,7 +7,7 @@ ghost use Rattle.run_heap.specs.Answers.{Answers, Does, Makes};
 ghost use Rattle.run_heap.specs.Heap.{next_object, with_object};
 ghost use Rattle.run_heap.specs.Operations as spec;
 ghost use Rattle.run_heap.specs.Operations.{read};
-ghost use Rattle.run_heap.specs.Sound.{Owned, Grows};
+ghost use Rattle.run_heap.specs.Sound.{Fits, Grows, Owned};
 ghost use Rattle.draft_core.specs.Fresh.{IsLiteral};
 ghost use Rattle.draft_core.specs.Seen.{heap, Stands};
 ghost use Rattle.draft_core.specs.Writes.{slots};
@@ -25,6 +25,7 @@ impl Scope {
         ensures done { (ts : List Tree) → Stands ts self.old → Makes result (heap ts self.old) (heap ts self.new) (spec.new_of kind (heap ts self.old)) (next_object (heap ts self.old)) }
         ensures stands { (ts : List Tree) → Stands ts self.old → Stands ts self.new }
         ensures grows { (ts : List Tree) → Stands ts self.old → Grows (heap ts self.old) (heap ts self.new) }
+        ensures fits { (ts : List Tree) → Stands ts self.old → IfOk result (λ v. Fits (heap ts self.new) v) }
         ensures tables { slots self.new ≤ slots self.old + 1 }
     {
         self.make(Content {
@@ -40,6 +41,7 @@ impl Scope {
         ensures done { (ts : List Tree) → Stands ts self.old → Makes result (heap ts self.old) (heap ts self.new) (spec.new_of kind.Obj (heap ts self.old)) (next_object (heap ts self.old)) }
         ensures stands { (ts : List Tree) → Stands ts self.old → Stands ts self.new }
         ensures grows { (ts : List Tree) → Stands ts self.old → Grows (heap ts self.old) (heap ts self.new) }
+        ensures fits { (ts : List Tree) → Stands ts self.old → IfOk result (λ v. Fits (heap ts self.new) v) }
         ensures tables { slots self.new ≤ slots self.old + 1 }
     {
         self.new_of(alloc, Kind::Obj)
@@ -50,6 +52,7 @@ impl Scope {
         ensures done { (ts : List Tree) → Stands ts self.old → Makes result (heap ts self.old) (heap ts self.new) (spec.new_of kind.List (heap ts self.old)) (next_object (heap ts self.old)) }
         ensures stands { (ts : List Tree) → Stands ts self.old → Stands ts self.new }
         ensures grows { (ts : List Tree) → Stands ts self.old → Grows (heap ts self.old) (heap ts self.new) }
+        ensures fits { (ts : List Tree) → Stands ts self.old → IfOk result (λ v. Fits (heap ts self.new) v) }
         ensures tables { slots self.new ≤ slots self.old + 1 }
     {
         self.new_of(alloc, Kind::List)
@@ -63,6 +66,7 @@ impl Scope {
         ensures done { Does result (heap store.now self.old) (heap store.now self.new) (spec.keys (heap store.now self.old) of.now) }
         ensures stands { Stands store.now self.new }
         ensures grows { Grows (heap store.now self.old) (heap store.now self.new) }
+        ensures fits { IfOk result (λ v. Fits (heap store.now self.new) v) }
         ensures tables { slots self.new ≤ slots self.old + 1 }
     {
         let table = self.key_list(alloc, store, of)?;
@@ -99,6 +103,7 @@ impl Scope {
         ensures done { (ts : List Tree) → Stands ts self.old → Makes result (heap ts self.old) (heap ts self.new) (with_object content (heap ts self.old)) (next_object (heap ts self.old)) }
         ensures stands { (ts : List Tree) → Stands ts self.old → Stands ts self.new }
         ensures grows { (ts : List Tree) → Stands ts self.old → Grows (heap ts self.old) (heap ts self.new) }
+        ensures fits { (ts : List Tree) → Stands ts self.old → IfOk result (λ v. Fits (heap ts self.new) v) }
         ensures tables { slots self.new ≤ slots self.old + 1 }
     {
         let slot = self.drafts as u64 + self.later.len() as u64;
@@ -115,6 +120,7 @@ impl Scope {
         ensures done { (ts : List Tree) → Stands ts self.old → Makes result (heap ts self.old) (heap ts self.new) (spec.with_plain v.now (heap ts self.old)) (spec.plain_value (heap ts self.old) v.now) }
         ensures stands { (ts : List Tree) → Stands ts self.old → Stands ts self.new }
         ensures grows { (ts : List Tree) → Stands ts self.old → Grows (heap ts self.old) (heap ts self.new) }
+        ensures fits { (ts : List Tree) → Stands ts self.old → IfOk result (λ v. Fits (heap ts self.new) v) }
     {
         let first = self.drafts as u64 + self.later.len() as u64;
         let mut made = Vec::new(alloc);

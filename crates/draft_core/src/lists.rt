@@ -7,7 +7,7 @@ ghost use Rattle.run_heap.specs.Heap.{fresh, next_object, with_object};
 ghost use Rattle.run_heap.specs.Laws.{AllContents};
 ghost use Rattle.run_heap.specs.Operations as spec;
 ghost use Rattle.run_heap.specs.Operations.{item};
-ghost use Rattle.run_heap.specs.Sound.{AllStored, Grows, IsObject};
+ghost use Rattle.run_heap.specs.Sound.{AllStored, Fits, Grows, IsObject};
 ghost use Rattle.draft_core.specs.Seen.{heap, Stands};
 ghost use Rattle.draft_core.specs.Writes.{slots};
 
@@ -26,6 +26,7 @@ impl Scope {
         ensures done { Makes result (heap store.now self.old) (heap store.now self.new) (with_object (fresh kind.List (map item items.now)) (heap store.now self.old)) (next_object (heap store.now self.old)) }
         ensures stands { Stands store.now self.new }
         ensures grows { Grows (heap store.now self.old) (heap store.now self.new) }
+        ensures fits { IfOk result (λ v. Fits (heap store.now self.new) v) }
         ensures tables { slots self.new ≤ slots self.old + 1 }
     {
         let list = list_content(alloc, items)?;
@@ -55,6 +56,7 @@ impl Scope {
         ensures done { Makes result (heap store.now self.old) (heap store.now self.new) (with_object (fresh kind.List (map item others.now)) (spec.splice_at from to items.now (heap store.now self.old) of.now)) (next_object (heap store.now self.old)) }
         ensures stands { Stands store.now self.new }
         ensures grows { Grows (heap store.now self.old) (heap store.now self.new) }
+        ensures fits { IfOk result (λ v. Fits (heap store.now self.new) v) }
         ensures tables { slots self.new ≤ slots self.old + 2 }
     {
         let list = list_content(alloc, others)?;
@@ -78,6 +80,7 @@ impl Scope {
         requires room { vec_len self.old.later < vec_capacity self.old.later }
         ensures heap { (ts : List Tree) → heap ts self.new ≡ with_object content (heap ts self.old) }
         ensures value { (ts : List Tree) → result ≡ next_object (heap ts self.old) }
+        ensures fits { (ts : List Tree) → Fits (heap ts self.new) result }
         ensures stands { (ts : List Tree) → Stands ts self.old → AllContents (with_object content (heap ts self.old)) (content ∷ []) → Stands ts self.new }
         ensures tables { slots self.new ≤ slots self.old + 1 }
     {

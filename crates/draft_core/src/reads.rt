@@ -173,12 +173,13 @@ impl Scope {
         }
     }
 
-    /// The value of an entry as it is kept. It takes no memory.
+    /// The value of an entry as it is kept: `Read` where the container has a table of its own, else `Untouched`, the cell at that
+    /// index of the node that it was opened on. It takes no memory.
     pub fn peek<'a>(&'a self, store: &'a Store, of: &Rv, i: usize) -> Peek<'a>
         requires stands { Stands store.now self.now }
         requires container { IsContainer (heap store.now self.now) of.now }
         requires in_range { i < spec.count (heap store.now self.now) of.now }
-        ensures { IsPeek (heap store.now self.now) of.now i result }
+        ensures { IsPeek store.now self.now of.now i result }
     {
         match self.look(store, of) {
             Some(look) => look.peek(store, i),

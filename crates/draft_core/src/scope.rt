@@ -8,6 +8,7 @@ ghost use Rattle.run_heap.specs.Sound.{Fits, Owned};
 ghost use Rattle.run_heap.specs.Values.{same};
 ghost use Rattle.draft_slots.specs.Looks.{looked, IsLook};
 ghost use Rattle.draft_core.specs.Seen.{heap, Stands};
+ghost use Rattle.draft_core.specs.Tables.{own_content, own_look, own_table};
 
 use crate::mint::ScopeTicket;
 use draft_slots::Look;
@@ -98,7 +99,7 @@ impl Scope {
         requires stands { Stands store.now self.now }
         requires owned { Owned (heap store.now self.now) of.now }
         requires ours { is_foreign (heap store.now self.now) of.now ≡ false }
-        ensures { MatchOption result (shown (heap store.now self.now) of.now ≡ None) (λ l. (looked store.now l ≡ shown (heap store.now self.now) of.now) × IsLook store.now l) }
+        ensures { MatchOption result (shown (heap store.now self.now) of.now ≡ None) (λ l. (looked store.now l ≡ shown (heap store.now self.now) of.now) × IsLook store.now l × (own_table self.now of.now ≡ own_look l)) }
     {
         match of {
             Rv::Obj(object) => Some(self.look_at(store, object.slot)),
@@ -113,6 +114,7 @@ impl Scope {
         requires name { name < (heap store.now self.now).next }
         ensures shown { looked store.now result ≡ (heap store.now self.now).object name }
         ensures look { IsLook store.now result }
+        ensures own { own_content self.now name ≡ own_look result }
     {
         if name >= self.drafts as u64 {
             return Look::Own(&self.later[(name - self.drafts as u64) as usize]);

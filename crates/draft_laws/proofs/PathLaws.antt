@@ -23,7 +23,7 @@ use Rattle.run_heap.specs.declared.value.Rv.TheVariants.{Undefined, Prim, Obj, F
 use Rattle.run_heap.specs.declared.content.Content.{Content}
 use Rattle.run_heap.specs.Heap.{Heap, drafts, copied, is_draft}
 use Rattle.run_heap.specs.Operations.{frozen_at, original, slot_of, source, source_in}
-use Rattle.run_heap.specs.Places.{step, path_to, path_in, place_of}
+use Rattle.run_heap.specs.Places.{step, path_to, place_of}
 use Rattle.run_heap.specs.Sound.{IsSound, IsOpenedAs}
 use Rattle.run_heap.specs.Values.{same}
 use Rattle.draft_core.specs.Paths.{path_entry}
@@ -128,18 +128,6 @@ same_index kind.Map es i j k l o p q e = one_index k es i j o.ascend p (q ∙ ap
 same_index kind.Set es i j k l o p q e = one_index k es i j o.ascend p (q ∙ ap Some (sym e))
 
 -- ---- the path of a place under a container
-    let e : w ≡ v = cc in
-    let f : j ≡ k = cc in
-    let yes : nat_lt m (containers w) ≡ true = grind (arith, b, ap containers e) in
-    let z : at + 0 ≡ at = omega arith in
-    let y : m - 0 ≡ m = omega arith in
-    rw (yes, z, y) (λ i. step of at (f i) ∷ path_to m (e i))
-path_entry of at (suc i) m (branch j w es) k v p q a b =
-    let no : nat_lt m (containers w) ≡ false = grind (arith, a) in
-    let n : at + suc i ≡ at + 1 + i = omega arith in
-    let back : m - (containers w + before i es) ≡ m - containers w - before i es = omega arith in
-    rw (no, n, back) (path_entry of (at + 1) i (m - containers w) es k v p q (omega (arith, a)) (omega (arith, a, b)))
-
 path_under : (id n : ℕ) (of : Kind) (es : Branches) (e : Entry n es) → path_to (suc n) (node id of es) ≡ step of e.index e.name ∷ path_to (n - before e.index es) e.tree
 path_under id n of es e =
     let z : 0 + e.index ≡ e.index = omega arith in

@@ -1,3 +1,2 @@
-pub mod Foreign
 pub mod Walks
 pub mod Written

@@ -4,13 +4,13 @@ ghost use Rattle.value_model.specs.declared.key.Key.{Key as KeyModel};
 ghost use Rattle.numbered.specs.Laws.{Extends};
 ghost use Rattle.numbered.specs.Store.{IsStore};
 ghost use Rattle.numbered.specs.Tree.{Tree};
+ghost use Rattle.run_heap.specs.Foreign.{Revokes};
 ghost use Rattle.run_heap.specs.Heap.{Heap, is_foreign};
 ghost use Rattle.run_heap.specs.Operations.{get, put_at, remove_at, keys, len, original};
 ghost use Rattle.run_heap.specs.Sound.{IsObject};
 ghost use Rattle.run_heap.specs.declared.value.Rv.{Rv as Value};
 ghost use Rattle.draft_core.specs.Seen.{heap, Stands};
 ghost use Rattle.draft_core.specs.declared.scope.Scope.{Scope as ScopeModel};
-ghost use Rattle.draft_laws.specs.Foreign.{Revokes};
 
 use draft_core::{ScopeMint, ScopeTicket};
 

@@ -118,6 +118,7 @@ pub fn new_map(alloc: Global, scope: &mut Scope) -> Result<Rv, AllocError>
     ensures done { (ts : List Tree) → Stands ts scope.old → Makes result (heap ts scope.old) (heap ts scope.new) (meaning.new_map (heap ts scope.old)) (next_object (heap ts scope.old)) }
     ensures stands { (ts : List Tree) → Stands ts scope.old → Stands ts scope.new }
     ensures grows { (ts : List Tree) → Stands ts scope.old → Grows (heap ts scope.old) (heap ts scope.new) }
+    ensures fits { (ts : List Tree) → Stands ts scope.old → IfOk result (λ v. Fits (heap ts scope.new) v) }
     ensures tables { slots scope.new ≤ slots scope.old + 1 }
 {
     scope.new_of(alloc, Kind::Map)

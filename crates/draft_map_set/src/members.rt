@@ -6,7 +6,7 @@ ghost use Rattle.run_heap.specs.Answers.{Does, Makes};
 ghost use Rattle.run_heap.specs.Heap.{fresh, next_object, with_object};
 ghost use Rattle.run_heap.specs.Operations as spec;
 ghost use Rattle.run_heap.specs.Operations.{keys_of, listed, table_of};
-ghost use Rattle.run_heap.specs.Sound.{Owned, IsContainer, Grows};
+ghost use Rattle.run_heap.specs.Sound.{Fits, Owned, IsContainer, Grows};
 ghost use Rattle.map_set_meaning.specs.MapSet as meaning;
 ghost use Rattle.draft_core.specs.Seen.{heap, Stands};
 ghost use Rattle.draft_core.specs.Writes.{slots};
@@ -40,6 +40,7 @@ pub fn member_keys(
     ensures done { Does result (heap store.now scope.old) (heap store.now scope.new) (meaning.member_keys (heap store.now scope.old) of.now) }
     ensures stands { Stands store.now scope.new }
     ensures grows { Grows (heap store.now scope.old) (heap store.now scope.new) }
+    ensures fits { IfOk result (λ v. Fits (heap store.now scope.new) v) }
     ensures tables { slots scope.new ≤ slots scope.old + 1 }
 {
     check_read(scope, store, of, Takes::Both)?;
@@ -54,6 +55,7 @@ fn list_keys(alloc: Global, scope: &mut Scope, store: &Store, of: &Rv) -> Result
     ensures done { Makes result (heap store.now scope.old) (heap store.now scope.new) (with_object (fresh kind.List (listed (keys_of (table_of (heap store.now scope.old) of.now)))) (heap store.now scope.old)) (next_object (heap store.now scope.old)) }
     ensures stands { Stands store.now scope.new }
     ensures grows { Grows (heap store.now scope.old) (heap store.now scope.new) }
+    ensures fits { IfOk result (λ v. Fits (heap store.now scope.new) v) }
     ensures tables { slots scope.new ≤ slots scope.old + 1 }
 {
     let keys = key_list(alloc, scope, store, of)?;

@@ -1,9 +1,9 @@
 //! The calls on Sets.
-ghost use Rattle.std.specs.Prelude.{◌≡◌, ◌≤◌, ◌+◌, List};
+ghost use Rattle.std.specs.Prelude.{◌≡◌, ◌≤◌, ◌+◌, IfOk, List};
 ghost use Rattle.numbered.specs.Tree.{Tree};
 ghost use Rattle.run_heap.specs.Answers.{Does, Makes};
 ghost use Rattle.run_heap.specs.Heap.{next_object};
-ghost use Rattle.run_heap.specs.Sound.{Owned, Grows};
+ghost use Rattle.run_heap.specs.Sound.{Fits, Owned, Grows};
 ghost use Rattle.map_set_meaning.specs.MapSet as meaning;
 ghost use Rattle.draft_core.specs.Seen.{heap, Stands};
 ghost use Rattle.draft_core.specs.Writes.{slots};
@@ -97,6 +97,7 @@ pub fn new_set(alloc: Global, scope: &mut Scope) -> Result<Rv, AllocError>
     ensures done { (ts : List Tree) → Stands ts scope.old → Makes result (heap ts scope.old) (heap ts scope.new) (meaning.new_set (heap ts scope.old)) (next_object (heap ts scope.old)) }
     ensures stands { (ts : List Tree) → Stands ts scope.old → Stands ts scope.new }
     ensures grows { (ts : List Tree) → Stands ts scope.old → Grows (heap ts scope.old) (heap ts scope.new) }
+    ensures fits { (ts : List Tree) → Stands ts scope.old → IfOk result (λ v. Fits (heap ts scope.new) v) }
     ensures tables { slots scope.new ≤ slots scope.old + 1 }
 {
     scope.new_of(alloc, Kind::Set)

@@ -1,14 +1,8 @@
 -- What a run's calls keep of the values that were answered.
-use Rattle.std.proofs.Common.{◌≡◌, ℕ, zero, suc, ◌<◌, List, [], ◌∷◌, ◌++◌, length, get_or, refl, ◌∙◌, arith}
-use Rattle.std.proofs.lemmas.List.{length-map}
-use Rattle.value_model.specs.Plain as plain_value
-use Rattle.value_model.specs.Plain.{Plain}
-use Rattle.numbered.specs.Laws.{length_post, containers_numbered}
-use Rattle.numbered.specs.Loading.{places, numbered, post_order}
+use Rattle.std.proofs.Common.{◌≡◌, ℕ, zero, suc, ◌<◌, List, [], ◌∷◌, ◌++◌, length, get_or, arith}
 use Rattle.run_heap.specs.declared.value.Rv.{Rv}
 use Rattle.run_heap.specs.declared.value.Rv.TheVariants.{Undefined, Prim, Obj, Frozen}
 use Rattle.run_heap.specs.Heap.{Heap}
-use Rattle.run_heap.specs.Operations.{literal, literals, with_plain, plain_value as value_of}
 use Rattle.run_heap.specs.Sound.{Fits, Owned, AllOwned, Grows}
 
 pub owned_at : (h : Heap) (vs : List Rv) (i : ℕ) (d : Rv) → AllOwned h vs → i < length vs → Owned h (get_or vs i d)
@@ -35,10 +29,3 @@ all_grow g h (v ∷ vs) m o = (owned_grows g h v m o.0, all_grow g h vs m o.1)
 pub owned_more : (h : Heap) (vs : List Rv) (v : Rv) → AllOwned h vs → Owned h v → AllOwned h (vs ++ v ∷ [])
 owned_more h [] v a o = (o, tt)
 owned_more h (u ∷ vs) v a o = (a.0, owned_more h vs v a.1 o)
-
-pub plain_fits : (h : Heap) (v : Plain) → Fits (with_plain v h) (value_of h v)
-plain_fits h (plain_value.prim k) = tt
-plain_fits h (plain_value.node of es) =
-    let v = plain_value.node of es in
-    let count : length (literals h v) ≡ places v = length-map (post_order (numbered h.next v)) (literal h.scope) ∙ length_post (numbered h.next v) ∙ containers_numbered h.next v in
-    (refl, omega (arith, count))

@@ -289,12 +289,3 @@ fits_on g h Undefined w f = tt
 fits_on g h (Prim k) w f = tt
 fits_on g h (Obj r) w f = let more = w.more in let low = f.1 in (f.0 ∙ sym w.scope, omega (arith, more, low))
 fits_on g h (Frozen id) w f = subst (λ (ts : List Tree). IsNumber ts id) (sym w.states) f
-
-fresh_fits : (c : Content) (g : Heap) → Fits (with_object c g) (next_object g)
-fresh_fits c g = (refl, omega arith)
-
-pub made_fits : (c : Content) (g h : Heap) (v : Rv) → h ≡ with_object c g → v ≡ next_object g → Fits h v
-made_fits c g h v p q = rw (p, q) (fresh_fits c g)
-
-pub spliced_next : (h : Heap) (of : Rv) (from to : ℕ) (vs : List Rv) → next_object (splice_at from to vs h of) ≡ next_object h
-spliced_next h of from to vs = same_next (spliced from to vs) h of (shown h of)

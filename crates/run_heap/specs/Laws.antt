@@ -4,6 +4,7 @@ use Rattle.std.specs.Prelude.{◌&&◌, ◌||◌, ◌==◌, ◌^◌, nat_lt, if�
 use Rattle.std.specs.FinMap.Entries.{is_sorted, below_all, find}
 use Rattle.std.specs.Ordering.{is_eq, is_lt, eq_by_cmp}
 use Rattle.std.proofs.lemmas.Bool.{or_left, not-false}
+use Rattle.std.proofs.lemmas.List.{length-map}
 use Rattle.value_model.specs.declared.key.Key.{Key}
 use Rattle.value_model.specs.declared.key.Key.TheVariants as key
 use Rattle.value_model.specs.declared.words.Kind.{Kind}
@@ -16,7 +17,8 @@ use Rattle.value_model.specs.Plain as plain_value
 use Rattle.value_model.specs.Plain.{Plain, Entries, list_of}
 use Rattle.value_model.specs.Well.{well, all_fit}
 use Rattle.value_model.specs.Search.{left_true, right_true}
-use Rattle.numbered.specs.Laws.{place_of, well_at, accepted_at, children_of}
+use Rattle.numbered.specs.Laws.{place_of, well_at, accepted_at, children_of, length_post, containers_numbered}
+use Rattle.numbered.specs.Loading.{places, numbered, post_order}
 use Rattle.numbered.specs.Store.{IsNumber, IsStore, IsOf, AllOf, tree_at}
 use Rattle.numbered.specs.Tree.{Tree, Branches, prim, node, none, branch, plain, plains, containers, containers_in, place, place_in}
 use Rattle.run_heap.specs.declared.value.Rv.{Rv}
@@ -26,8 +28,8 @@ use Rattle.run_heap.specs.declared.value.Given.TheVariants as given
 use Rattle.run_heap.specs.declared.content.Content.{Content}
 use Rattle.run_heap.specs.declared.fault.DraftFault.{DraftFault}
 use Rattle.run_heap.specs.declared.fault.DraftFault.TheVariants as fault
-use Rattle.run_heap.specs.Heap.{Heap, after, given_table, given_content, copied, opening, opened, shown, is_foreign, rewritten, update, with_objects}
-use Rattle.run_heap.specs.Operations.{Rows, source_in, or_undefined, value_at, entry, then_read, read, get}
+use Rattle.run_heap.specs.Heap.{Heap, after, given_table, given_content, copied, opening, opened, shown, is_foreign, rewritten, update, with_objects, with_object, next_object}
+use Rattle.run_heap.specs.Operations.{Rows, source_in, or_undefined, value_at, entry, then_read, read, get, literal, literals, with_plain, plain_value as value_of}
 use Rattle.run_heap.specs.Sound.{IsStored, Fits, Owned, RowsStored, all_stand, ascends, IsTable, IsContent, IsOpenedAs, HasSource, IsSound, Keeps, Grows}
 use Rattle.run_heap.specs.Values.{same, same_tables}
 
@@ -385,6 +387,20 @@ grows_objects h cs s = record {
   more = omega arith;
   keeps = λ n. by_age (Keeps (h.object n)) h cs n (λ m. keeps_refl (h.object n)) (λ m. rw (s.fresh n m) tt);
 }
+
+-- what is answered for them is a value of the heap
+fresh_fits : (c : Content) (h : Heap) → Fits (with_object c h) (next_object h)
+fresh_fits c h = (refl, omega arith)
+
+pub made_fits : (c : Content) (g h : Heap) (v : Rv) → h ≡ with_object c g → v ≡ next_object g → Fits h v
+made_fits c g h v p q = rw (p, q) (fresh_fits c g)
+
+pub plain_fits : (h : Heap) (v : Plain) → Fits (with_plain v h) (value_of h v)
+plain_fits h (plain_value.prim k) = tt
+plain_fits h (plain_value.node of es) =
+    let v = plain_value.node of es in
+    let count : length (literals h v) ≡ places v = length-map (post_order (numbered h.next v)) (literal h.scope) ∙ length_post (numbered h.next v) ∙ containers_numbered h.next v in
+    (refl, omega (arith, count))
 
 -- ---- what a value of a sound heap shows may be an object's content
 stored_frozen : (h : Heap) (es : Branches) → AllOf h.states es → RowsStored h (given_table given.Frozen es)

@@ -1,5 +1,6 @@
 pub mod Answers
 pub mod Examples
+pub mod Foreign
 pub mod Heap
 pub mod Laws
 pub mod Operations

@@ -2,7 +2,7 @@
 //!
 //! The definitions stand in `specs/`: `Heap` (objects, their contents, the deep copy of a state), `Values` (which values and
 //! tables are the same), `Operations` (what a call answers and leaves), `Answers` (how code answers that), `Places` (the paths of
-//! drafts), `Sound` (what holds of every heap of a run), `Examples` (worked rows).
+//! drafts), `Sound` (what holds of every heap of a run), `Foreign` (references of other scopes), `Examples` (worked rows).
 #![tactic(auto)]
 
 mod content;

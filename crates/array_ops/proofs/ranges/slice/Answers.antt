@@ -7,11 +7,6 @@ use Rattle.std.proofs.lemmas.Int.{to_z-of_z}
 use Rattle.std.specs.Int.{w64}
 use Rattle.draft_core.specs.Seen.{heap}
 use Rattle.list_rows.specs.Edits.{slice_row}
-use Rattle.std.proofs.Common.{map}
-use Rattle.value_model.specs.declared.words.Kind.TheVariants as kind
-use Rattle.run_heap.specs.Heap.{fresh}
-use Rattle.run_heap.specs.Operations.{item}
-use Rattle.list_rows.specs.Edits.{made_fits}
 use Rattle.array_ops.proofs.ranges.slice.Goals as goal
 
 pub returns-clause-done : goal.returns-clause-done
@@ -22,10 +17,3 @@ returns-clause-done c =
     let from = rw (to_z-of_z w64 c.args.start c.ranges.start) at c.relative-from.ensures in
     slice_row c.args.start c.args.end h c.args.of.now g c.in_ok-len.len c.relative-from.result c.end_at-to.result c.deref.result.now c.in_ok-len.ensures.answer from c.end_at-to.ensures (c.deref.ensures.value ∙ c.in_ok-items.ensures.values) made.0
     ∙ ap (λ (v : Rv). let r : Result (Heap × Rv) DraftFault = Ok (g, v) in r) (sym made.1)
-
-pub returns-clause-fits : goal.returns-clause-fits
-returns-clause-fits c =
-    let h = heap c.args.store.now c.args.scope.now in
-    let g = heap c.args.store.now c.list_of.new.self in
-    let made = rw c.in_ok-items.ensures.same at c.in_ok-list_of.ensures.done in
-    made_fits (fresh kind.List (map item c.deref.result.now)) h g c.in_ok-list_of.field-0 made.0 made.1

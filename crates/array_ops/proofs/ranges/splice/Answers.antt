@@ -8,11 +8,6 @@ use Rattle.std.specs.Int.{w64}
 use Rattle.draft_core.specs.Seen.{heap}
 use Rattle.list_rows.specs.Edits.{splice_row}
 use Rattle.list_rows.specs.Guards.{items_stored}
-use Rattle.std.proofs.Common.{map}
-use Rattle.value_model.specs.declared.words.Kind.TheVariants as kind
-use Rattle.run_heap.specs.Heap.{fresh}
-use Rattle.run_heap.specs.Operations.{item, splice_at}
-use Rattle.list_rows.specs.Edits.{made_fits, spliced_next}
 use Rattle.array_ops.proofs.ranges.splice.Goals as goal
 
 pub splice_with-requires-clause-stored : goal.splice_with-requires-clause-stored
@@ -31,14 +26,3 @@ returns-clause-done c =
     let defined = sym c.any_undefined.ensures ∙ c.if-any_undefined.false in
     splice_row c.args.start c.args.count c.args.items.now h c.args.of.now g c.in_ok-len.len from to c.deref.result.now c.requires.stands.sound c.in_ok-len.ensures.answer first (ap (λ k. from + k) c.removed.ensures) defined (c.deref.ensures.value ∙ c.in_ok-gone.ensures.values) made.0
     ∙ ap (λ (v : Rv). let r : Result (Heap × Rv) DraftFault = Ok (g, v) in r) (sym made.1)
-
-pub returns-clause-fits : goal.returns-clause-fits
-returns-clause-fits c =
-    let h = heap c.args.store.now c.args.scope.now in
-    let g = heap c.args.store.now c.splice_with.new.self in
-    let of = c.args.of.now in
-    let items = c.args.items.now in
-    let from = c.relative-from.result in
-    let to = from + c.removed.result in
-    let made = rw c.in_ok-gone.ensures.same at c.in_ok-splice_with.ensures.done in
-    made_fits (fresh kind.List (map item c.deref.result.now)) (splice_at from to items h of) g c.in_ok-splice_with.field-0 made.0 (made.1 ∙ sym (spliced_next h of from to items))

@@ -1,6 +1,6 @@
 use Rattle.std.proofs.Common.{◌≡◌, ◌∙◌, ◌+◌, List, ◌∷◌, [], length, refl, sym, subst, ap, ℕ}
 use Rattle.run_heap.specs.declared.content.Content.{Content}
-use Rattle.run_heap.specs.Laws.{objects_sound}
+use Rattle.run_heap.specs.Laws.{made_fits, objects_sound}
 use Rattle.run_heap.specs.Sound.{IsSound}
 use Rattle.draft_core.specs.Changed.{stands_as}
 use Rattle.draft_core.specs.Fresh.{heap_made, next_made}
@@ -15,6 +15,9 @@ returns-clause-value c = λ ts.
     let s = c.args.self.now in
     let long : c.len.result ≡ length s.later.items = c.len.ensures ∙ s.later.ok.0 in
     next_made ts s _ (ap (λ (n : ℕ). s.drafts + n) long)
+
+pub returns-clause-fits : goal.returns-clause-fits
+returns-clause-fits c = λ ts. made_fits c.args.content (heap ts c.args.self.now) _ _ (returns-clause-heap c ts) (returns-clause-value c ts)
 
 pub returns-clause-stands : goal.returns-clause-stands
 returns-clause-stands c = λ ts st all.

@@ -2,7 +2,7 @@ use Rattle.std.proofs.Common.{◌≡◌, ◌∙◌, ◌+◌, List, ◌∷◌, []
 use Rattle.std.proofs.lemmas.Result.{err_from_is_err_and}
 use Rattle.run_heap.specs.declared.content.Content.{Content}
 use Rattle.run_heap.specs.Heap.{with_objects}
-use Rattle.run_heap.specs.Laws.{objects_sound, grows_objects, grows_refl}
+use Rattle.run_heap.specs.Laws.{made_fits, objects_sound, grows_objects, grows_refl}
 use Rattle.run_heap.specs.Sound.{IsSound, Grows}
 use Rattle.draft_core.specs.declared.scope.Scope.{Scope}
 use Rattle.draft_core.specs.Changed.{heap_same, stands_as}
@@ -46,3 +46,8 @@ pub returns-clause-grows : goal.returns-clause-grows
 returns-clause-grows c = λ ts st.
     let h = heap ts c.args.self.now in
     subst (Grows h) (sym (returns-clause-done c ts st).0) (grows_objects h (c.args.content ∷ []) st.sound)
+
+pub returns-clause-fits : goal.returns-clause-fits
+returns-clause-fits c = λ ts st.
+    let m = returns-clause-done c ts st in
+    made_fits c.args.content (heap ts c.args.self.now) _ _ m.0 m.1

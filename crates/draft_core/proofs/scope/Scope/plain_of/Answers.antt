@@ -1,8 +1,9 @@
 use Rattle.std.proofs.Common.{◌∙◌, ◌+◌, ◌++◌, length, refl, sym, subst, ap, ℕ, arith}
 use Rattle.std.proofs.lemmas.Result.{err_from_is_err_and}
-use Rattle.run_heap.specs.Laws.{objects_sound, grows_objects, grows_refl}
-use Rattle.run_heap.specs.Operations.{literals}
-use Rattle.run_heap.specs.Sound.{IsSound, Grows}
+use Rattle.run_heap.specs.Heap.{Heap}
+use Rattle.run_heap.specs.Laws.{objects_sound, grows_objects, grows_refl, plain_fits}
+use Rattle.run_heap.specs.Operations.{literals, with_plain}
+use Rattle.run_heap.specs.Sound.{IsSound, Fits, Grows}
 use Rattle.draft_core.specs.declared.scope.Scope.{Scope}
 use Rattle.draft_core.specs.Changed.{heap_same, stands_as}
 use Rattle.draft_core.specs.Fresh.{heap_made}
@@ -54,3 +55,10 @@ pub returns-clause-grows : goal.returns-clause-grows
 returns-clause-grows c = λ ts st.
     let h = heap ts c.args.self.now in
     subst (Grows h) (sym (returns-clause-done c ts st).0) (grows_objects h (literals h c.args.v.now) st.sound)
+
+pub returns-clause-fits : goal.returns-clause-fits
+returns-clause-fits c = λ ts st.
+    let h = heap ts c.args.self.now in
+    let v = c.args.v.now in
+    let m = returns-clause-done c ts st in
+    subst (λ (g : Heap). Fits g c.in_ok-value.value) (sym m.0) (subst (Fits (with_plain v h)) (sym m.1) (plain_fits h v))

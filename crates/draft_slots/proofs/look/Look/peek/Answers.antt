@@ -21,4 +21,9 @@ returns-in-Own c =
 pub returns-in-Node : goal.returns-in-Node
 returns-in-Node c =
     let look = rw c.in-Node.is at c.requires.look in
-    rw c.in-Node.is (value_given c.args.store.now c.in-Node.field-1 c.args.i (branches_of (tree_at c.args.store.now c.in-Node.id)) c.cell.result.now look.0 c.cell.ensures.below c.cell.ensures.child)
+    rw c.in-Node.is (
+    record {
+      there = c.cell.ensures.value;
+      value = value_given c.args.store.now c.in-Node.field-1 c.args.i (branches_of (tree_at c.args.store.now c.in-Node.id)) c.cell.result.now look.0 c.cell.ensures.below c.cell.ensures.child;
+    }
+    )
