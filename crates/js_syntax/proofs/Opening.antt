@@ -14,7 +14,7 @@ use Rattle.script_tree.specs.declared.Access.{Access}
 use Rattle.script_tree.specs.View.{view, member_of}
 use Rattle.script_tree.proofs.Views.{view_member}
 use Rattle.js_syntax.specs.Statements.{plainly, no_level, error_at}
-use Rattle.js_syntax.proofs.Rules.{within}
+use Rattle.js_expr.proofs.Rules.{within}
 use Rattle.js_syntax.proofs.Statements.{error_plain}
 
 too_many : {B : Type 0} (o : Option B) → is_some o ≡ true → refused o ≡ TooNested

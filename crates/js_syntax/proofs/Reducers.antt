@@ -19,14 +19,14 @@ use Rattle.script_tree.specs.declared.Reducer.{Reducer}
 use Rattle.script_tree.specs.View.{reducer_of, program_of}
 use Rattle.js_syntax.specs.Statements.{items_at}
 use Rattle.js_syntax.specs.Reducers.{params_at, body_at, reducer_at, reducers_at, reducers_before, onto_reducers}
-use Rattle.js_syntax.specs.declared.source.Stop.{Stop}
-use Rattle.js_syntax.specs.declared.source.Stop.TheVariants as stop
+use Rattle.js_expr.specs.declared.source.Stop.{Stop}
+use Rattle.js_expr.specs.declared.source.Stop.TheVariants as stop
 use Rattle.js_syntax.specs.declared.fault.SyntaxFault.{SyntaxFault}
 use Rattle.js_syntax.specs.declared.fault.SyntaxFault.TheVariants as fault
-use Rattle.js_syntax.specs.Reading.{Fails}
+use Rattle.js_expr.specs.Reading.{Fails}
 use Rattle.js_syntax.specs.Faults.{IsCause, fault_of}
-use Rattle.js_syntax.proofs.Rules.{within}
-use Rattle.js_syntax.proofs.Seen.{toks_here, toks_end, or_more, some_token}
+use Rattle.js_expr.proofs.Rules.{within}
+use Rattle.js_expr.proofs.Seen.{toks_here, toks_end, or_more, some_token}
 
 -- ---- one reducer
 body_split : (n : ℕ × List ℕ) (d : ℕ) (ts : Toks) → reducer_body n (under d) ts ≡ (params_at >>= λ ps. body_at d >>= λ is. pure (Function n.0 n.1 ps is)) ts

@@ -1,15 +1,15 @@
 -- What each rule for statements does at the next token and the levels that are left.
-use Rattle.std.proofs.Common.{◌≡◌, ◌≢◌, ℕ, zero, suc, ◌+◌, ◌-◌, Bool, true, false, List, [], ◌∷◌, ◌++◌, Option, Some, None, Ok, Err, refl, ap, ◌∙◌, map}
-use Rattle.std.specs.Prelude.{if◌then◌else◌}
+use Rattle.std.proofs.Common.{◌≡◌, ◌≢◌, ℕ, zero, suc, ◌+◌, ◌-◌, ◌<◌, ◌≤◌, Bool, true, false, List, [], ◌∷◌, ◌++◌, length, Option, Some, None, Ok, Err, refl, ap, ◌∙◌, map, slice_index_or}
+use Rattle.std.specs.Prelude.{if◌then◌else◌, not}
 use Rattle.script_text.specs.declared.sign.Sign.TheVariants.{OpenRound, CloseRound, OpenBrace, CloseBrace, Semicolon, Assign}
 use Rattle.script_text.specs.declared.word.Reserved.{Reserved}
 use Rattle.script_text.specs.declared.word.Reserved.TheVariants as kept
 use Rattle.script_text.specs.declared.token.Token.{Token}
-use Rattle.script_grammar.specs.Tokens.{Tok, Name, Kept, Integer, Text, Fixed, Other, Toks}
+use Rattle.script_grammar.specs.Tokens.{Tok, Name, Kept, Integer, Text, Fixed, Other, Toks, seen}
 use Rattle.script_grammar.specs.Trees.{Ex, Stmt as St, Empty, IfElse, Return, ReturnOf, Throw, ThrowError, Delete, Set, Do, Item, Plain, Items, NoItems, ThenItem}
 use Rattle.script_grammar.specs.Rules.{is_member}
 use Rattle.script_parser.specs.Steps.{Why, TooNested, Outcome, Parser, and_then, ◌>>=◌, pure, fail, too_deep, first, look}
-use Rattle.script_parser.specs.Tests.{fixed, is_some, kept_as, sees, sees_word, StmtForm, BlockForm, EmptyForm, IfForm, ReturnForm, ThrowForm, DeleteForm, ExprForm, stmt_form, PlainForm, item_form}
+use Rattle.script_parser.specs.Tests.{fixed, is_some, kept_as, sees, sees_word, StmtForm, BlockForm, EmptyForm, IfForm, ReturnForm, ThrowForm, DeleteForm, ExprForm, stmt_form, PlainForm, item_form, in_block}
 use Rattle.script_parser.specs.Parser.{Below, expect, keyword, opened, post, expr, items, block, inner, else_by, may_else, conditional, ended, return_by, thrown_error, throw_by, assign_by, may_assign, below}
 use Rattle.script_parser.proofs.Tests.{of_kept}
 use Rattle.script_parser.proofs.Accept.{under, goods_under}
@@ -21,8 +21,8 @@ use Rattle.script_tree.specs.View.{view, item_view, items_of, if_of}
 use Rattle.script_tree.proofs.Statements.{view_empty, view_if_else}
 use Rattle.script_grammar.specs.Sources.{toks}
 use Rattle.js_syntax.specs.Statements.{plainly, closed, no_level, const_at, let_at, return_by_at, return_at, error_at, throw_by_at, throw_at, deleted_at, delete_at, assign_by_at, assign_at, stmt_at, item_at, items_at, inner_at, block_at, else_at, arm_by_at, arms_at, if_at, items_before, onto_items, item_next}
-use Rattle.js_syntax.proofs.Seen.{sign_read, word_read}
-use Rattle.js_syntax.proofs.Rules.{seen_sign, deep, within, made_sign}
+use Rattle.js_expr.proofs.Seen.{sign_read, word_read, toks_here, toks_end, some_token}
+use Rattle.js_expr.proofs.Rules.{seen_sign, deep, within, made_sign}
 use Rattle.js_syntax.proofs.Else.{else_is}
 
 -- ---- a statement as an item, step by step
@@ -217,6 +217,22 @@ unfolding item_at stmt_at
 item_plain d ts a b = rw (item_other (first ts) a b) refl
 
 -- ---- items
+-- whether one comes next
+item_token : (t : Tok) → in_block t ≡ not (sees CloseBrace (Some t))
+item_token (Name at bytes) = refl
+item_token (Kept r) = refl
+item_token (Integer n) = refl
+item_token (Text b) = refl
+item_token Other = refl
+item_token (Fixed CloseBrace) = refl
+item_token (Fixed _) = refl
+
+pub item_is : (bytes : List ℕ) (tokens : List Token) (at : ℕ) → at < length tokens → item_next (first (toks bytes tokens at)) ≡ not (sees CloseBrace (first (toks bytes tokens at)))
+item_is bytes tokens at l = let t = some_token tokens at l in rw (toks_here bytes tokens at t l) (item_token (seen bytes at (slice_index_or tokens at t)))
+
+pub item_ends : (bytes : List ℕ) (tokens : List Token) (at : ℕ) → length tokens ≤ at → item_next (first (toks bytes tokens at)) ≡ false
+item_ends bytes tokens at l = rw (toks_end bytes tokens at l) refl
+
 items_more : (found : List Stmt) (s : Stmt) (out : Outcome Items) → onto_items found (and_then out (λ is. pure (ThenItem (item_view s) is))) ≡ onto_items (found ++ s ∷ []) out
 items_more found s (Err x) = refl
 items_more found s (Ok q) = ap (λ (is : Items). Ok (is, q.1)) (go found)

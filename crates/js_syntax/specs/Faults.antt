@@ -2,8 +2,8 @@
 use Rattle.std.specs.Prelude.{ℕ, List}
 use Rattle.script_text.specs.declared.token.Token.{Token}
 use Rattle.script_grammar.specs.Sources.{offset_of, UnexpectedAt, TooNestedAt}
-use Rattle.js_syntax.specs.declared.source.Stop.{Stop}
-use Rattle.js_syntax.specs.declared.source.Stop.TheVariants as stop
+use Rattle.js_expr.specs.declared.source.Stop.{Stop}
+use Rattle.js_expr.specs.declared.source.Stop.TheVariants as stop
 use Rattle.js_syntax.specs.declared.fault.SyntaxFault.{SyntaxFault}
 use Rattle.js_syntax.specs.declared.fault.SyntaxFault.TheVariants as fault
 

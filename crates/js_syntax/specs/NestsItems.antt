@@ -5,9 +5,9 @@ use Rattle.script_grammar.specs.Trees.{Item}
 use Rattle.script_parser.specs.Steps.{Parser}
 use Rattle.script_tree.specs.declared.Stmt.{Stmt}
 use Rattle.script_tree.specs.View.{item_view}
-use Rattle.js_syntax.specs.declared.source.Source.{Source}
-use Rattle.js_syntax.specs.declared.source.Stop.{Stop}
-use Rattle.js_syntax.specs.Reading.{Reads}
+use Rattle.js_expr.specs.declared.source.Source.{Source}
+use Rattle.js_expr.specs.declared.source.Stop.{Stop}
+use Rattle.js_expr.specs.Reading.{Reads}
 use Rattle.js_syntax.specs.Statements.{item_at, stmt_at}
 
 -- a declaration or a statement, or a statement alone

@@ -4,7 +4,8 @@ ghost use Rattle.std.specs.Prelude.{◌≡◌};
 ghost use Rattle.script_grammar.specs.Sources.{offset_of};
 ghost use Rattle.js_syntax.specs.Faults.{fault_of};
 
-use crate::source::{Source, Stop};
+use crate::level::Level;
+use js_expr::Stop;
 use thiserror::Error;
 
 /// Why tokens are no program, with the offset in bytes at which the token begins; that is the source's length where
@@ -21,22 +22,22 @@ pub enum SyntaxFault {
     Memory,
 }
 
-impl Source<'_> {
+impl Level<'_> {
     /// Where the token of this number begins.
     #[tactic(auto, using(crate::proofs::Reducers::offset_here, crate::proofs::Reducers::offset_end))]
     fn offset(&self, at: usize) -> usize
-        ensures { result ≡ offset_of self.now.bytes.now self.now.tokens.now at }
+        ensures { result ≡ offset_of self.now.source.bytes.now self.now.source.tokens.now at }
     {
-        if at < self.tokens.len() {
-            self.tokens[at].start
+        if at < self.source.tokens.len() {
+            self.source.tokens[at].start
         } else {
-            self.bytes.len()
+            self.source.bytes.len()
         }
     }
 
     /// The fault of a reading that stopped.
     pub(crate) fn fault(&self, stop: Stop) -> SyntaxFault
-        ensures { result ≡ fault_of self.now.bytes.now self.now.tokens.now stop }
+        ensures { result ≡ fault_of self.now.source.bytes.now self.now.source.tokens.now stop }
     {
         match stop {
             Stop::Unexpected(at) => SyntaxFault::Unexpected(self.offset(at)),

@@ -1,16 +1,16 @@
 //! Statements and declarations that hold no other.
 
-ghost use Rattle.std.specs.Prelude.{◌≡◌, ◌<◌, ◌≤◌, ◌-◌, IfOk, IfErr};
+ghost use Rattle.std.specs.Prelude.{◌≡◌, ◌<◌, ◌≤◌, ◌-◌, length, IfOk, IfErr, IsTrue};
 ghost use Rattle.script_grammar.specs.Rules.{is_member, is_target};
+ghost use Rattle.script_parser.specs.Steps.{first};
 ghost use Rattle.script_parser.specs.Parser.{below, expr as expr_rule, post as post_rule};
 ghost use Rattle.script_tree.specs.View.{view, item_view};
 ghost use Rattle.script_grammar.specs.Sources.{toks};
-ghost use Rattle.js_syntax.specs.Reading.{Reads, Fails};
-ghost use Rattle.js_syntax.specs.Lists.{Forward};
-ghost use Rattle.js_syntax.specs.Statements.{no_level, test_at, const_at, let_at, return_at, error_at, throw_at, delete_at, assign_at};
+ghost use Rattle.js_expr.specs.Reading.{Reads, Fails};
+ghost use Rattle.js_expr.specs.Lists.{Forward};
+ghost use Rattle.js_syntax.specs.Statements.{no_level, test_at, const_at, let_at, return_at, error_at, throw_at, delete_at, assign_at, item_next};
 
-use crate::expr::{read, read_post};
-use crate::source::{Source, Stop};
+use js_expr::{Source, Stop, read_expr, read_post};
 use script_text::{Reserved, Sign};
 use script_tree::{Expr, Stmt};
 use std::alloc::Global;
@@ -29,7 +29,7 @@ impl Level<'_> {
         ensures is { Reads view (expr_rule (below self.now.depth)) self.now.source.bytes.now self.now.source.tokens.now at result }
         ensures forward { Forward at result }
     {
-        let (expr, at) = read(self.alloc, self.source, at, self.depth, true)?;
+        let (expr, at) = read_expr(self.alloc, self.source, at, self.depth)?;
         Ok((expr, at))
     }
 
@@ -39,7 +39,7 @@ impl Level<'_> {
         ensures is { Reads view (expr_rule (below (self.now.depth - 1))) self.now.source.bytes.now self.now.source.tokens.now at result }
         ensures forward { Forward at result }
     {
-        let (expr, at) = read(self.alloc, self.source, at, self.depth - 1, true)?;
+        let (expr, at) = read_expr(self.alloc, self.source, at, self.depth - 1)?;
         Ok((expr, at))
     }
 
@@ -58,6 +58,15 @@ impl Level<'_> {
         } else {
             Err(Stop::Unexpected(at))
         }
+    }
+
+    /// Whether a token comes next that closes no block.
+    #[tactic(auto, using(crate::proofs::Statements::item_is, crate::proofs::Statements::item_ends))]
+    pub(crate) fn begins_item(&self, at: usize) -> bool
+        ensures is { result ≡ item_next (first (toks self.now.source.bytes.now self.now.source.tokens.now at)) }
+        ensures within { IsTrue result → at < length self.now.source.tokens.now }
+    {
+        at < self.source.tokens.len() && !self.source.sees(at, Sign::CloseBrace)
     }
 
     /// The test of a conditional.

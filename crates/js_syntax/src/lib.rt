@@ -9,19 +9,16 @@ ghost use Rattle.js_syntax.specs.Faults.{IsCause};
 ghost use Rattle.js_syntax.specs.declared.fault.SyntaxFault.{SyntaxFault};
 ghost use Rattle.js_syntax.specs.declared.fault.SyntaxFault.TheVariants as fault;
 
-mod expr;
 mod fault;
 mod level;
 mod program;
-mod source;
 mod stmt;
-mod text;
 
 pub use fault::SyntaxFault;
+use js_expr::Source;
 use js_lex::Tokens;
 use level::Level;
 use script_tree::Reducer;
-use source::Source;
 use sqlite_items::Items;
 use std::alloc::Global;
 
@@ -55,6 +52,6 @@ pub fn read_program(
     };
     match level.reducers() {
         Ok(reducers) => Ok(reducers),
-        Err(stop) => Err(level.source.fault(stop)),
+        Err(stop) => Err(level.fault(stop)),
     }
 }

@@ -3,13 +3,13 @@
 ghost use Rattle.std.specs.Prelude.{◌≡◌, ◌<◌, ◌≤◌, ◌-◌, [], IfErr, IfOk, MatchResult, Ok};
 ghost use Rattle.script_grammar.specs.Sources.{toks};
 ghost use Rattle.script_tree.specs.View.{reducer_of, program_of};
-ghost use Rattle.js_syntax.specs.Reading.{Reads, Fails};
+ghost use Rattle.js_expr.specs.Reading.{Reads, Fails};
 ghost use Rattle.js_syntax.specs.Statements.{items_at, items_view};
 ghost use Rattle.js_syntax.specs.Reducers.{params_at, params_view, body_at, reducer_at, reducers_at};
 
 use crate::level::Level;
-use crate::source::Stop;
 use crate::stmt::{Statements, read_item};
+use js_expr::Stop;
 use script_text::{Reserved, Sign};
 use script_tree::{Name, Reducer, Stmt};
 use sqlite_items::Items;

@@ -8,12 +8,12 @@ ghost use Rattle.script_parser.specs.Tests.{sees, sees_word};
 ghost use Rattle.script_text.specs.declared.word.Reserved.TheVariants.{If, Else};
 ghost use Rattle.script_tree.specs.View.{view, item_view};
 ghost use Rattle.script_grammar.specs.Sources.{toks};
-ghost use Rattle.js_syntax.specs.Reading.{Reads};
+ghost use Rattle.js_expr.specs.Reading.{Reads};
 ghost use Rattle.js_syntax.specs.Statements.{stmt_at, item_at, items_at, inner_at, block_at, test_at, else_at, arms_at, if_at, items_view};
 ghost use Rattle.js_syntax.specs.NestsItems.{NestsItems, item_rule};
 
 use crate::level::Level;
-use crate::source::{Source, Stop};
+use js_expr::{Source, Stop};
 use script_text::{Reserved, Sign};
 use script_tree::{Expr, Stmt};
 use sqlite_items::{Boxed, Items};
@@ -221,7 +221,7 @@ impl<F: Fn(Global, Source<'_>, usize, usize, bool) -> Result<(Stmt, usize), Stop
     {
         let mut found = Vec::new(self.level.alloc);
         let mut next = at;
-        'more: while self.level.source.begins_item(next) {
+        'more: while self.level.begins_item(next) {
             let (item, after) = self.nested(next, true)?;
             found.push(item)?;
             next = after;

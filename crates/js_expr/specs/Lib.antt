@@ -1,0 +1,5 @@
+pub mod Lists
+pub mod Nests
+pub mod Next
+pub mod Reading
+pub mod Values
