@@ -9,7 +9,7 @@ use thiserror::Error;
 #[derive(Debug, Drop, Error)]
 pub enum ParseFault {
     /// The first token with which the tokens begin no program; the source's length where they end too early.
-    #[error("nothing goes on like this at {0}")]
+    #[error("the token at {0} is not expected")]
     Unexpected(usize),
     /// The first token that opens a 65th level, where it stands before each unexpected one.
     #[error("too many levels are open at {0}")]

@@ -22,7 +22,7 @@ pub enum DraftFault {
     #[error("a key has more than 1,024 bytes")]
     KeyTooLong,
     /// An index of a list that is written is negative or past its end.
-    #[error("an index is past the end of its list")]
+    #[error("an index or a length is not within its list")]
     Hole,
     /// The value that is to be stored is undefined.
     #[error("the value that is to be stored is undefined")]

@@ -17,7 +17,7 @@ use value_text::JsonWhy;
 use values::{Key, Limit, Op, Patch, Patches, Path, Val};
 
 /// The JSON data that the bytes are: `NotJson` exactly where they are no JSON text (RFC 8259) of at most 127 levels, as
-/// where they aren't UTF-8, or memory.
+/// where they aren't UTF-8, or one with a number past a double's range; or memory.
 pub fn json_of_bytes(alloc: Global, bytes: &[u8]) -> Result<Value, JsonFault>
     ensures { GivesData view result (json_of bytes.now) }
 {
