@@ -40,8 +40,8 @@ impl Text8 {
 }
 
 /// The value that the bytes are as JSON (RFC 8259): `NotJson` where they are no JSON text of at most 127 levels, or one with a
-/// number past a double's range, then the first fault of the walk (`NotSafeInteger`, `TextTooLong`, `BadTag`, `DuplicateKey`), or else the first limit that the
-/// value is past, or memory.
+/// number past a double's range, then the first fault of the walk (`NotSafeInteger`, `TextTooLong`, `BadTag`, `DuplicateKey`), or
+/// else the first limit that the value is past, or memory.
 pub fn read_value(alloc: Global, bytes: &[u8]) -> Result<Val, JsonFault>
     ensures { Gives result (value_of bytes.now) }
 {
