@@ -3,7 +3,7 @@ ghost use Rattle.std.specs.Prelude.{◌≡◌, ◌≤◌, IfOk, length, slice_ge
 ghost use Rattle.run_heap.specs.Operations.{or_undefined, table_of};
 ghost use Rattle.run_heap.specs.Sound.{AllStored, Fits, IsContainer};
 ghost use Rattle.draft_core.specs.Seen.{heap, Stands};
-ghost use Rattle.list_rows.specs.Guards.{elements_of};
+ghost use Rattle.array_ops_spec.specs.Guards.{elements_of};
 
 use draft_core::{Rv, Scope, Store};
 use std::alloc::{AllocError, Global};

@@ -4,7 +4,7 @@ ghost use Rattle.run_heap.specs.Answers.{Does};
 ghost use Rattle.run_heap.specs.Sound.{AllOwned, Fits, Grows, Owned};
 ghost use Rattle.draft_core.specs.Seen.{heap, Stands};
 ghost use Rattle.draft_core.specs.Writes.{slots};
-ghost use Rattle.list_rows.specs.Calls as spec;
+ghost use Rattle.array_ops_spec.specs.Calls as spec;
 
 use crate::elements::element;
 use crate::guards::{any_undefined, writable};

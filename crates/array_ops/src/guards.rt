@@ -1,12 +1,12 @@
 //! What is asked before a list's elements are looked at.
 ghost use Rattle.std.specs.Prelude.{◌≡◌, ◌<◌, ◌^◌, ◌↔◌, IsTrue, IfOk, MatchResult, List, Some};
 ghost use Rattle.numbered.specs.Tree.{Tree};
-ghost use Rattle.value_model.specs.declared.words.Kind.TheVariants as kind;
+ghost use Rattle.value_model.specs.declared.kind.Kind.TheVariants as kind;
 ghost use Rattle.std.specs.List.{list_any};
 ghost use Rattle.run_heap.specs.Operations as spec;
 ghost use Rattle.run_heap.specs.Sound.{Owned};
 ghost use Rattle.draft_core.specs.Seen.{heap, Stands};
-ghost use Rattle.list_rows.specs.Guards.{IsListed, IsReadable, IsUnlisted, IsWritable, readable as may_read, writable as may_write};
+ghost use Rattle.array_ops_spec.specs.Guards.{IsListed, IsReadable, IsUnlisted, IsWritable, readable as may_read, writable as may_write};
 
 use draft_core::{DraftFault, Kind, Rv, Scope, Store};
 

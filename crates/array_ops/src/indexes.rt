@@ -1,6 +1,6 @@
 //! Indexes that are counted from the start or from the end.
 ghost use Rattle.std.specs.Prelude.{◌≡◌, MatchOption, false, true};
-ghost use Rattle.list_rows.specs.Calls as spec;
+ghost use Rattle.array_ops_spec.specs.Calls as spec;
 
 /// An index counted from the start, or, where it is negative, from the end: at least 0, and at most the length.
 pub(crate) fn relative(index: i64, count: usize) -> usize

@@ -5,8 +5,8 @@ ghost use Rattle.run_heap.specs.Operations.{table_of};
 ghost use Rattle.run_heap.specs.Sound.{IsContainer, Owned};
 ghost use Rattle.run_heap.specs.Values.{same};
 ghost use Rattle.draft_core.specs.Seen.{heap, Stands};
-ghost use Rattle.list_rows.specs.Calls as spec;
-ghost use Rattle.list_rows.specs.Guards.{elements_of};
+ghost use Rattle.array_ops_spec.specs.Calls as spec;
+ghost use Rattle.array_ops_spec.specs.Guards.{elements_of};
 
 use crate::guards::readable;
 use draft_core::{DraftFault, Rv, Scope, Store};

@@ -1,6 +1,6 @@
 ghost use Rattle.std.specs.Prelude.{◌≡◌, length, IfOk, IfSome, None};
 ghost use Rattle.value_model.specs.Limits.{value_limit};
-ghost use Rattle.byte_spelling.specs.Spelling.{CanSpell};
+ghost use Rattle.value_bytes_spec.specs.Spelling.{CanSpell};
 
 use anyhow::Context;
 use std::alloc::Global;

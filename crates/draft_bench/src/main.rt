@@ -17,7 +17,7 @@ use std::env;
 use std::time::{Duration, Instant};
 use value_checks::check_state;
 use value_model::{Key, Safe, Text};
-use values::{Field, Node, Val};
+use values::{Field, ValNode, Val};
 
 /// How many objects the list has.
 const OBJECTS: u32 = 100_000;
@@ -34,7 +34,7 @@ fn objects(alloc: Global, n: u32) -> anyhow::Result<Val> {
         items.push(object(alloc)?)?;
     }
     Ok(Val {
-        node: Node::List(items),
+        node: ValNode::List(items),
     })
 }
 
@@ -46,7 +46,7 @@ fn object(alloc: Global) -> anyhow::Result<Val> {
         value: Val::primitive(Key::Null),
     })?;
     Ok(Val {
-        node: Node::Obj(fields),
+        node: ValNode::Obj(fields),
     })
 }
 

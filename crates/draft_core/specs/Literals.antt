@@ -6,9 +6,9 @@ use Rattle.std.specs.FinMap.Entries.{is_sorted, below_all}
 use Rattle.std.specs.Ordering.{is_eq, is_lt}
 use Rattle.value_model.specs.declared.key.Key.{Key}
 use Rattle.value_model.specs.declared.key.Key.TheVariants as key
-use Rattle.value_model.specs.declared.words.Kind.{Kind}
-use Rattle.value_model.specs.declared.words.Kind.TheVariants as kind
-use Rattle.value_model.specs.declared.words.Limit.TheVariants as limit
+use Rattle.value_model.specs.declared.kind.Kind.{Kind}
+use Rattle.value_model.specs.declared.kind.Kind.TheVariants as kind
+use Rattle.value_model.specs.declared.limit.Limit.TheVariants as limit
 use Rattle.value_model.specs.Limits.{is_long_key, is_long_text, is_reserved_text, has_long_key, any_long_key, has_reserved_key, any_reserved_key, value_limit}
 use Rattle.value_model.specs.Order.{key_cmp}
 use Rattle.value_model.specs.Places.{ascends_at}

@@ -6,7 +6,7 @@ use Rattle.std.specs.List.{list_any, All}
 use Rattle.std.specs.Map.{lookup}
 use Rattle.std.specs.Ordering.{nat_cmp, is_eq}
 use Rattle.std.proofs.lemmas.Bool.{or_right}
-use Rattle.value_model.specs.declared.words.Kind.TheVariants as kind
+use Rattle.value_model.specs.declared.kind.Kind.TheVariants as kind
 use Rattle.value_model.specs.Search.{left_true, right_true}
 use Rattle.numbered.specs.Tree.{Tree}
 use Rattle.run_heap.specs.declared.content.Content.{Content}

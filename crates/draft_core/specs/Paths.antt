@@ -3,7 +3,7 @@ use Rattle.std.proofs.Common.{◌≡◌, ℕ, zero, suc, ◌+◌, ◌-◌, ◌<�
 use Rattle.std.proofs.lemmas.List.{append_assoc, append-nil}
 use Rattle.std.specs.Prelude.{◌^◌, pos, Option, Some, None, nat_lt, slice_get}
 use Rattle.value_model.specs.declared.key.Key.{Key}
-use Rattle.value_model.specs.declared.words.Kind.{Kind}
+use Rattle.value_model.specs.declared.kind.Kind.{Kind}
 use Rattle.value_model.specs.Safe.{IsSafe}
 use Rattle.std.proofs.lemmas.Int.{ints}
 use Rattle.value_model.specs.Plain as plain_value

@@ -5,8 +5,8 @@ use Rattle.std.specs.FinMap.Entries.{put, is_sorted}
 use Rattle.std.proofs.lemmas.Bool.{or_right}
 use Rattle.value_model.specs.declared.key.Key.{Key}
 use Rattle.value_model.specs.declared.key.Key.TheVariants as key
-use Rattle.value_model.specs.declared.words.Kind.{Kind}
-use Rattle.value_model.specs.declared.words.Kind.TheVariants as kind
+use Rattle.value_model.specs.declared.kind.Kind.{Kind}
+use Rattle.value_model.specs.declared.kind.Kind.TheVariants as kind
 use Rattle.value_model.specs.Limits.{is_long_text, is_reserved_text, is_reserved_key}
 use Rattle.value_model.specs.Order.{key_cmp}
 use Rattle.run_heap.specs.declared.value.Rv.{Rv}

@@ -2,7 +2,7 @@
 ghost use Rattle.std.specs.Prelude.{◌≡◌, ◌+◌, ◌≤◌, [], IfOk, List, None};
 ghost use Rattle.numbered.specs.Tree.{Tree};
 ghost use Rattle.value_model.specs.Limits.{value_limit};
-ghost use Rattle.value_model.specs.declared.words.Kind.TheVariants as kind;
+ghost use Rattle.value_model.specs.declared.kind.Kind.TheVariants as kind;
 ghost use Rattle.run_heap.specs.Answers.{Answers, Does, Makes};
 ghost use Rattle.run_heap.specs.Heap.{next_object, with_object};
 ghost use Rattle.run_heap.specs.Operations as spec;

@@ -1,7 +1,7 @@
 //! Fresh lists of given values.
 ghost use Rattle.std.specs.Prelude.{◌≡◌, ◌+◌, ◌<◌, ◌≤◌, List, [], ◌∷◌, Some, OnOk, IfOk, map, vec_len, vec_capacity};
 ghost use Rattle.numbered.specs.Tree.{Tree};
-ghost use Rattle.value_model.specs.declared.words.Kind.TheVariants as kind;
+ghost use Rattle.value_model.specs.declared.kind.Kind.TheVariants as kind;
 ghost use Rattle.run_heap.specs.Answers.{Makes};
 ghost use Rattle.run_heap.specs.Heap.{fresh, next_object, with_object};
 ghost use Rattle.run_heap.specs.Laws.{AllContents};

@@ -1,7 +1,7 @@
 //! Which change a refusing call makes.
 ghost use Rattle.std.specs.Prelude.{◌≡◌, MatchOption, true, false, length};
 ghost use Rattle.value_model.specs.declared.key.Key.TheVariants as key_model;
-ghost use Rattle.value_model.specs.declared.words.Kind.TheVariants as kind;
+ghost use Rattle.value_model.specs.declared.kind.Kind.TheVariants as kind;
 ghost use Rattle.run_heap.specs.Answers.{Answers};
 ghost use Rattle.run_heap.specs.Operations as spec;
 ghost use Rattle.run_heap.specs.Operations.{Rows, is_hole, rows_of};

@@ -6,7 +6,7 @@ ghost use Rattle.std.specs.Prelude.{◌^◌, ◌&&◌, nat_lt, ◌≡◌, ◌≢
 ghost use Rattle.node_store.specs.Nodes.{cells_of};
 ghost use Rattle.numbered.specs.Store.{IsNumber, IsStore, tree_at};
 ghost use Rattle.numbered.specs.Tree.{Tree, branches_of, children, containers};
-ghost use Rattle.value_model.specs.declared.words.Kind.TheVariants as kind;
+ghost use Rattle.value_model.specs.declared.kind.Kind.TheVariants as kind;
 ghost use Rattle.run_heap.specs.Answers.{Answers};
 ghost use Rattle.run_heap.specs.Heap.{is_foreign};
 ghost use Rattle.run_heap.specs.Operations as spec;

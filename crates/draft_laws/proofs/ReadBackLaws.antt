@@ -1,7 +1,7 @@
 -- What is read after a write.
 use Rattle.std.proofs.Common.{◌≡◌, ℕ, List, [], ◌∷◌, refl, ap, sym, ◌∙◌, arith, Bool, true, false, not, Result, Ok, Err, ◌≢◌, ◌<◌, zero, suc, pos, negsuc, cond, Equal, ◌++◌, length}
 use Rattle.std.specs.Prelude.{slice_set, ◌==◌, Option, Some, None, if◌then◌else◌, nat_lt}
-use Rattle.value_model.specs.declared.words.Kind.{Kind}
+use Rattle.value_model.specs.declared.kind.Kind.{Kind}
 use Rattle.value_model.specs.declared.key.Key.{Key}
 use Rattle.value_model.specs.Order.{key_cmp, key_total, key_exact}
 use Rattle.run_heap.specs.declared.value.ObjRef.{ObjRef}
@@ -16,7 +16,7 @@ use Rattle.std.specs.Ordering.{eq_by_cmp}
 use Rattle.value_model.specs.Tables.{is_eq-same, is_eq-other}
 use Rattle.value_model.specs.Limits.{is_long_text, is_reserved_text, is_reserved_key}
 use Rattle.value_model.specs.declared.key.Key.TheVariants as key
-use Rattle.value_model.specs.declared.words.Kind.TheVariants as kind
+use Rattle.value_model.specs.declared.kind.Kind.TheVariants as kind
 use Rattle.run_heap.specs.Operations.{unless, get, entry, is_undefined, item, set_element, no_answer, or_undefined, value_at, put_entry, putting, removing, is_text_place, without, put_at, remove_at, Rows, Edit}
 use Rattle.draft_laws.proofs.WriteLaws.{eq_of, eq_true, written_now, first_not, unless_ok, IsEdit, edit_is}
 

@@ -1,7 +1,7 @@
 -- What a write leaves.
 use Rattle.std.proofs.Common.{◌≡◌, ◌↔◌, ℕ, List, [], ◌∷◌, refl, ap, sym, ◌∙◌, subst, arith, Bool, true, false, not, Result, Ok, Err}
 use Rattle.std.specs.Prelude.{◌&&◌, ◌||◌, ◌==◌, Option, Some, None, option_map, if◌then◌else◌}
-use Rattle.value_model.specs.declared.words.Kind.{Kind}
+use Rattle.value_model.specs.declared.kind.Kind.{Kind}
 use Rattle.value_model.specs.declared.key.Key.{Key}
 use Rattle.value_model.specs.Order.{key_cmp, key_total}
 use Rattle.std.specs.Ordering.{is_eq}

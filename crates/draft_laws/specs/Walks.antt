@@ -3,8 +3,8 @@ use Rattle.std.specs.Prelude.{◌≡◌, pos, Option, Some, None, List, [], ◌�
 use Rattle.std.specs.Ordering.{is_eq}
 use Rattle.value_model.specs.declared.key.Key.{Key}
 use Rattle.value_model.specs.declared.key.Key.TheVariants as key
-use Rattle.value_model.specs.declared.words.Kind.{Kind}
-use Rattle.value_model.specs.declared.words.Kind.TheVariants as kind
+use Rattle.value_model.specs.declared.kind.Kind.{Kind}
+use Rattle.value_model.specs.declared.kind.Kind.TheVariants as kind
 use Rattle.value_model.specs.Order.{key_cmp}
 use Rattle.numbered.specs.Store.{tree_at}
 use Rattle.numbered.specs.Tree.{Tree, Branches, prim, node, none, branch, children}

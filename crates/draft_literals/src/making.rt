@@ -1,7 +1,7 @@
 ghost use Rattle.std.specs.Prelude.{◌≡◌, ◌+◌, ◌^◌, ◌<◌, ◌++◌, ◌∷◌, [], IfOk, IsTrue, length, map};
 ghost use Rattle.std.specs.FinMap.Entries.{is_sorted};
 ghost use Rattle.value_model.specs.Order.{key_cmp};
-ghost use Rattle.value_model.specs.declared.words.Kind.TheVariants as kind;
+ghost use Rattle.value_model.specs.declared.kind.Kind.TheVariants as kind;
 ghost use Rattle.values.specs.Seen.{of_field, of_entry, of_member, of_fields, of_items, of_entries, of_members};
 ghost use Rattle.numbered.specs.Loading.{places, places_in};
 ghost use Rattle.value_model.specs.Plain.{node as container};
@@ -11,7 +11,7 @@ use node_store::Kind;
 use run_heap::{Content, ObjRef, Rv, Table};
 use std::alloc::{AllocError, Global};
 use value_model::Key;
-use values::{Entry, Field, Node, Val};
+use values::{Entry, Field, ValNode, Val};
 
 /// Adds the objects of the value's containers, and answers what stands for it. The objects of a scope's number have the names
 /// from `first` on, those in `out` before.
@@ -27,11 +27,11 @@ pub fn literals(
     ensures { IfOk result (λ w. IsMade scope first v.now out.old.items out.new.items w) }
 {
     match &v.node {
-        Node::Prim(key) => Ok(Rv::Prim(key.copy(alloc)?)),
-        Node::Obj(fields) => literal_object(alloc, scope, first, fields, out),
-        Node::List(items) => literal_list(alloc, scope, first, items, out),
-        Node::Map(entries) => literal_map(alloc, scope, first, entries, out),
-        Node::Set(members) => literal_set(alloc, scope, first, members, out),
+        ValNode::Prim(key) => Ok(Rv::Prim(key.copy(alloc)?)),
+        ValNode::Obj(fields) => literal_object(alloc, scope, first, fields, out),
+        ValNode::List(items) => literal_list(alloc, scope, first, items, out),
+        ValNode::Map(entries) => literal_map(alloc, scope, first, entries, out),
+        ValNode::Set(members) => literal_set(alloc, scope, first, members, out),
     }
 }
 

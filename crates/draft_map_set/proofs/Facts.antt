@@ -6,8 +6,8 @@ use Rattle.std.specs.Ordering.{is_eq}
 use Rattle.std.proofs.lemmas.Cmp.{tied_itself}
 use Rattle.std.proofs.lemmas.List.{append_assoc}
 use Rattle.value_model.specs.declared.key.Key.{Key}
-use Rattle.value_model.specs.declared.words.Kind.{Kind}
-use Rattle.value_model.specs.declared.words.Kind.TheVariants as kind
+use Rattle.value_model.specs.declared.kind.Kind.{Kind}
+use Rattle.value_model.specs.declared.kind.Kind.TheVariants as kind
 use Rattle.value_model.specs.Limits.{is_long_key}
 use Rattle.value_model.specs.Order.{key_cmp, key_total}
 use Rattle.run_heap.specs.declared.value.Rv.{Rv}
@@ -20,7 +20,7 @@ use Rattle.run_heap.specs.Heap.{Heap, shown, is_foreign}
 use Rattle.run_heap.specs.Operations.{Rows, unless, Edit, edited, edit_shown, then_write, any_foreign, is_frozen, is_undefined, no_answer, kind_of, position, item, listed}
 use Rattle.run_heap.specs.Sound.{AllStored}
 use Rattle.draft_core.specs.Writes.{MayStandIn}
-use Rattle.map_set_meaning.specs.MapSet.{is_map, is_set, is_long, by_key, has, map_set, setting}
+use Rattle.draft_map_set_spec.specs.MapSet.{is_map, is_set, is_long, by_key, has, map_set, setting}
 use Rattle.draft_map_set.specs.Checks.{Causes, checked, is_of, write_causes, entry_causes, setting_causes, adding_causes}
 
 -- ---- the first cause that holds

@@ -1,12 +1,12 @@
 -- The causes for which a call is refused, in their order.
 use Rattle.std.specs.Prelude.{List, [], ◌∷◌, Option, Some, None, Bool, false, not, Result, Ok}
-use Rattle.value_model.specs.declared.words.Kind.{Kind}
+use Rattle.value_model.specs.declared.kind.Kind.{Kind}
 use Rattle.run_heap.specs.declared.value.Rv.{Rv}
 use Rattle.run_heap.specs.declared.fault.DraftFault.{DraftFault}
 use Rattle.run_heap.specs.declared.fault.DraftFault.TheVariants as fault
 use Rattle.run_heap.specs.Heap.{Heap}
 use Rattle.run_heap.specs.Operations.{unless, any_foreign, is_undefined, is_frozen, kind_of}
-use Rattle.map_set_meaning.specs.MapSet.{is_map, is_set, is_map_or_set, is_long}
+use Rattle.draft_map_set_spec.specs.MapSet.{is_map, is_set, is_map_or_set, is_long}
 use Rattle.draft_map_set.specs.declared.checks.Takes.{Takes}
 use Rattle.draft_map_set.specs.declared.checks.Takes.TheVariants.{Maps, Sets, Both}
 

@@ -4,7 +4,7 @@ ghost use Rattle.value_model.specs.Limits.{is_long_key};
 ghost use Rattle.run_heap.specs.Heap.{is_foreign};
 ghost use Rattle.run_heap.specs.Operations as spec;
 ghost use Rattle.run_heap.specs.Sound.{Owned};
-ghost use Rattle.map_set_meaning.specs.MapSet as meaning;
+ghost use Rattle.draft_map_set_spec.specs.MapSet as meaning;
 ghost use Rattle.draft_core.specs.Seen.{heap, Stands};
 ghost use Rattle.draft_map_set.specs.Checks.{checked, taken, kind_causes, read_causes, write_causes, entry_causes, setting_causes, adding_causes};
 

@@ -2,13 +2,13 @@
 ghost use Rattle.std.specs.Prelude.{◌≡◌, ◌≢◌, ◌≤◌, ◌+◌, ◌∷◌, [], IfOk, Some, None};
 ghost use Rattle.std.specs.FinMap.Entries.{find};
 ghost use Rattle.value_model.specs.Order.{key_cmp};
-ghost use Rattle.value_model.specs.declared.words.Kind.TheVariants as kind;
+ghost use Rattle.value_model.specs.declared.kind.Kind.TheVariants as kind;
 ghost use Rattle.run_heap.specs.Answers.{Does, Makes};
 ghost use Rattle.run_heap.specs.Operations as spec;
 ghost use Rattle.run_heap.specs.Operations.{or_undefined, table_of, read, edited};
 ghost use Rattle.run_heap.specs.Sound.{Fits, Owned, IsContainer, IsObject, Grows};
-ghost use Rattle.map_set_meaning.specs.MapSet as meaning;
-ghost use Rattle.map_set_meaning.specs.MapSet.{of_kind, is_there, deleting, clearing};
+ghost use Rattle.draft_map_set_spec.specs.MapSet as meaning;
+ghost use Rattle.draft_map_set_spec.specs.MapSet.{of_kind, is_there, deleting, clearing};
 ghost use Rattle.draft_core.specs.Seen.{heap, Stands};
 ghost use Rattle.draft_core.specs.Writes.{slots};
 ghost use Rattle.draft_map_set.specs.Checks.{taken};

@@ -1,13 +1,13 @@
 //! The calls on a Map or a Set alike.
 ghost use Rattle.std.specs.Prelude.{◌≡◌, ◌≢◌, ◌≤◌, ◌+◌, IfOk, Some, map};
-ghost use Rattle.value_model.specs.declared.words.Kind.TheVariants as kind;
+ghost use Rattle.value_model.specs.declared.kind.Kind.TheVariants as kind;
 ghost use Rattle.run_heap.specs.declared.value.Rv.TheVariants.{Prim};
 ghost use Rattle.run_heap.specs.Answers.{Does, Makes};
 ghost use Rattle.run_heap.specs.Heap.{fresh, next_object, with_object};
 ghost use Rattle.run_heap.specs.Operations as spec;
 ghost use Rattle.run_heap.specs.Operations.{keys_of, listed, table_of};
 ghost use Rattle.run_heap.specs.Sound.{Fits, Owned, IsContainer, Grows};
-ghost use Rattle.map_set_meaning.specs.MapSet as meaning;
+ghost use Rattle.draft_map_set_spec.specs.MapSet as meaning;
 ghost use Rattle.draft_core.specs.Seen.{heap, Stands};
 ghost use Rattle.draft_core.specs.Writes.{slots};
 

@@ -4,7 +4,7 @@ ghost use Rattle.numbered.specs.Tree.{Tree};
 ghost use Rattle.run_heap.specs.Answers.{Does, Makes};
 ghost use Rattle.run_heap.specs.Heap.{next_object};
 ghost use Rattle.run_heap.specs.Sound.{Fits, Owned, Grows};
-ghost use Rattle.map_set_meaning.specs.MapSet as meaning;
+ghost use Rattle.draft_map_set_spec.specs.MapSet as meaning;
 ghost use Rattle.draft_core.specs.Seen.{heap, Stands};
 ghost use Rattle.draft_core.specs.Writes.{slots};
 

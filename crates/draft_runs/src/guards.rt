@@ -1,7 +1,7 @@
 //! What a call's conditions ask, found out by what the calls on one value answer.
 ghost use Rattle.std.specs.Prelude.{◌≡◌, ◌≢◌, ◌<◌, IfOk, IfSome, IsTrue, Some};
 ghost use Rattle.value_model.specs.Limits.{is_long_key};
-ghost use Rattle.value_model.specs.declared.words.Kind.TheVariants as kind_model;
+ghost use Rattle.value_model.specs.declared.kind.Kind.TheVariants as kind_model;
 ghost use Rattle.run_heap.specs.Operations as spec;
 ghost use Rattle.run_heap.specs.Sound as sound;
 ghost use Rattle.run_heap.specs.Sound.{AllOwned, AllStored, IsContainer, IsObject, IsStored, Owned};

@@ -7,7 +7,7 @@ use std::alloc::Global;
 use value_checks::{check_state, check_value};
 use value_json::read_value;
 use value_model::{Key, Kind};
-use values::{Node, Val};
+use values::{ValNode, Val};
 
 /// A value that a call is handed.
 #[derive(Drop)]
@@ -36,7 +36,7 @@ pub fn operand_of(alloc: Global, word: &str) -> Result<Operand, WordFault> {
 pub fn key_of(alloc: Global, word: &str) -> Result<Key, WordFault> {
     let v = read_value(alloc, word.as_bytes())?;
     match v.node {
-        Node::Prim(key) => Ok(key),
+        ValNode::Prim(key) => Ok(key),
         _ => Err(WordFault::Unexpected),
     }
 }

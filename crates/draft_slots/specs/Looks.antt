@@ -1,8 +1,8 @@
 -- What a look at a container shows, over a store of these states.
 use Rattle.std.specs.Prelude.{◌≡◌, ℕ, ◌+◌, ◌<◌, ◌≤◌, ◌^◌, List, [], length, Option, Some, None, IsTrue, ⊤}
 use Rattle.std.specs.FinMap.Entries.{is_sorted, put}
-use Rattle.value_model.specs.declared.words.Kind.{Kind}
-use Rattle.value_model.specs.declared.words.Kind.TheVariants as kind
+use Rattle.value_model.specs.declared.kind.Kind.{Kind}
+use Rattle.value_model.specs.declared.kind.Kind.TheVariants as kind
 use Rattle.value_model.specs.Order.{key_cmp}
 use Rattle.numbered.specs.Store.{IsNumber, IsStore, tree_at}
 use Rattle.numbered.specs.Tree.{Tree, branches_of, containers_in}

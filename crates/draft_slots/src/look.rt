@@ -1,7 +1,7 @@
 //! Reading a container: an object's own content, or a node as the store holds it, of which nothing is copied.
 ghost use Rattle.std.specs.Prelude.{◌^◌, ◌≡◌, ◌≢◌, ◌<◌, IfOk, IfSome, Some, List, length, slice_get};
 ghost use Rattle.value_model.specs.declared.key.Key.TheVariants as key_model;
-ghost use Rattle.value_model.specs.declared.words.Kind.TheVariants as kind;
+ghost use Rattle.value_model.specs.declared.kind.Kind.TheVariants as kind;
 ghost use Rattle.numbered.specs.Tree.{Tree};
 ghost use Rattle.run_heap.specs.Answers.{Answers};
 ghost use Rattle.run_heap.specs.Operations as spec;

@@ -1,6 +1,6 @@
 //! Reading a node of the store as an object: its containers are given out as frozen nodes, or as objects by their names.
 ghost use Rattle.std.specs.Prelude.{◌≡◌, ◌≢◌, ◌+◌, ◌<◌, ◌≤◌, ◌^◌, IfOk, IfSome, Some, length, slice_get};
-ghost use Rattle.value_model.specs.declared.words.Kind.TheVariants as kind;
+ghost use Rattle.value_model.specs.declared.kind.Kind.TheVariants as kind;
 ghost use Rattle.numbered.specs.Store.{IsNumber, IsStore, tree_at};
 ghost use Rattle.numbered.specs.Tree.{branches_of};
 ghost use Rattle.node_store.specs.Nodes.{kind_of, keys_in, cells_of};

@@ -5,10 +5,10 @@ use Rattle.std.specs.FinMap.Entries.{put, is_sorted, below_all}
 use Rattle.std.specs.Ordering.{is_lt, is_eq, eq_by_cmp}
 use Rattle.value_model.specs.declared.key.Key.{Key}
 use Rattle.value_model.specs.declared.key.Key.TheVariants as key
-use Rattle.value_model.specs.declared.words.Kind.TheVariants as kind
-use Rattle.value_model.specs.declared.words.Op.TheVariants as op
-use Rattle.value_model.specs.declared.words.PatchWhy.{PatchWhy}
-use Rattle.value_model.specs.declared.words.PatchWhy.TheVariants as why
+use Rattle.value_model.specs.declared.kind.Kind.TheVariants as kind
+use Rattle.value_model.specs.declared.op.Op.TheVariants as op
+use Rattle.value_model.specs.declared.patch_why.PatchWhy.{PatchWhy}
+use Rattle.value_model.specs.declared.patch_why.PatchWhy.TheVariants as why
 use Rattle.value_model.specs.Limits.{is_long_text, is_reserved_text}
 use Rattle.value_model.specs.Order.{key_cmp}
 use Rattle.value_model.specs.Places.{without_key}

@@ -3,9 +3,9 @@ use Rattle.std.proofs.Common.{◌≡◌, ℤ, [], ◌∷◌, ap, refl, false}
 use Rattle.std.specs.Prelude.{IsTrue, Option, Some, None, Result, Ok, Err}
 use Rattle.value_model.specs.declared.key.Key.{Key}
 use Rattle.value_model.specs.declared.key.Key.TheVariants as key
-use Rattle.value_model.specs.declared.words.Kind.TheVariants as kind
-use Rattle.value_model.specs.declared.words.Op.{Op}
-use Rattle.value_model.specs.declared.words.Op.TheVariants as op
+use Rattle.value_model.specs.declared.kind.Kind.TheVariants as kind
+use Rattle.value_model.specs.declared.op.Op.{Op}
+use Rattle.value_model.specs.declared.op.Op.TheVariants as op
 use Rattle.value_model.specs.Plain.{Plain}
 use Rattle.value_model.specs.Steps.{list_of_entries}
 use Rattle.patch_meaning.specs.Applying.{as_node, edited, in_object}

@@ -7,7 +7,7 @@ use Rattle.std.specs.Ordering.{is_lt}
 use Rattle.std.proofs.Math.Seq.{get_or-append_seam}
 use Rattle.value_model.specs.declared.key.Key.{Key}
 use Rattle.value_model.specs.declared.key.Key.TheVariants as key
-use Rattle.value_model.specs.declared.words.Kind.TheVariants as kind
+use Rattle.value_model.specs.declared.kind.Kind.TheVariants as kind
 use Rattle.value_model.specs.Limits.{is_long_key, is_reserved_key, has_long_key, any_long_key, has_reserved_key, any_reserved_key, state_limit}
 use Rattle.value_model.specs.Order.{key_cmp}
 use Rattle.value_model.specs.Plain as plain_value

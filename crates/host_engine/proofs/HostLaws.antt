@@ -1,7 +1,7 @@
 -- The machine of a host that keeps a flat state in a store.
 use Rattle.std.proofs.Common.{◌≡◌, ℕ, ◌+◌, ◌≤◌, ◌<◌, ◌^◌, List, [], ◌∷◌, ◌++◌, length, min, ap, refl, sym, ◌∙◌, arith, Bool, true, false, length-append, ne_eqb}
 use Rattle.std.specs.Prelude.{IsTrue, ◌||◌, ◌==◌, nat_lt, Option, Some, None, option_map, Ok, Err}
-use Rattle.value_model.specs.declared.words.Kind.TheVariants as kind
+use Rattle.value_model.specs.declared.kind.Kind.TheVariants as kind
 use Rattle.value_model.specs.Limits.{state_limit}
 use Rattle.value_model.specs.Plain as plain_value
 use Rattle.value_model.specs.Plain.{Plain, Table as TableOf, Entries, entries, list_of, weight}

@@ -3,7 +3,7 @@ use Rattle.std.proofs.Common.{◌≡◌, ◌<◌, ◌≤◌, ◌+◌, ℕ, zero,
 use Rattle.std.specs.Prelude.{IsTrue, Some, None}
 use Rattle.std.proofs.Math.Seq.{drop-cons}
 use Rattle.std.specs.FinMap.Entries.{is_sorted}
-use Rattle.value_model.specs.declared.words.Op.TheVariants.{Add, Remove}
+use Rattle.value_model.specs.declared.op.Op.TheVariants.{Add, Remove}
 use Rattle.value_model.specs.Order.{key_cmp}
 use Rattle.value_model.specs.Plain.{Table as TableOf}
 use Rattle.value_model.specs.Search.{right_true}

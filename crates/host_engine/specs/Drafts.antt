@@ -2,7 +2,7 @@
 use Rattle.std.specs.Prelude.{◌≡◌, List, map, Option, Some, None, IsTrue}
 use Rattle.value_model.specs.declared.key.Key.{Key}
 use Rattle.value_model.specs.declared.key.Key.TheVariants.{Null}
-use Rattle.value_model.specs.declared.words.Kind.TheVariants as kind
+use Rattle.value_model.specs.declared.kind.Kind.TheVariants as kind
 use Rattle.value_model.specs.Plain.{Plain, Table, prim}
 use Rattle.numbered.specs.Tree.{Tree}
 use Rattle.node_store.specs.declared.node.Cell.{Cell}

@@ -1,9 +1,9 @@
 -- What the edits of the root draft answer and leave, beside want of memory.
 use Rattle.std.specs.Prelude.{◌≡◌, Bool, false, not, ◌||◌, List, Option, Some, None, Result, Ok, Err, ⊤}
 use Rattle.value_model.specs.declared.key.Key.{Key}
-use Rattle.value_model.specs.declared.words.Op.{Op}
-use Rattle.value_model.specs.declared.words.PatchWhy.{PatchWhy}
-use Rattle.value_model.specs.declared.words.PatchWhy.TheVariants as why
+use Rattle.value_model.specs.declared.op.Op.{Op}
+use Rattle.value_model.specs.declared.patch_why.PatchWhy.{PatchWhy}
+use Rattle.value_model.specs.declared.patch_why.PatchWhy.TheVariants as why
 use Rattle.value_model.specs.Plain.{Plain, Table}
 use Rattle.values.specs.declared.patch.Patch.{Patch}
 use Rattle.patch_meaning.specs.Applying.{applied_from, patched}

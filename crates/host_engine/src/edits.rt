@@ -1,6 +1,6 @@
 //! Patches applied to the root draft of a flat state.
 ghost use Rattle.std.specs.Prelude.{◌≡◌, ◌∷◌, [], Some, None, MatchOption, IsTrue, OnOk, false};
-ghost use Rattle.value_model.specs.declared.words.Op.TheVariants as op;
+ghost use Rattle.value_model.specs.declared.op.Op.TheVariants as op;
 ghost use Rattle.patch_meaning.specs.Applying.{in_object};
 ghost use Rattle.host_machine.specs.Flat.{is_integer, is_text_key, is_flat_path, is_flat_patch, are_flat};
 ghost use Rattle.host_engine.specs.Drafts.{IsFlatScope, entries_in, root_in};
@@ -9,7 +9,7 @@ ghost use Rattle.host_engine.specs.Kept.{number_of};
 
 use crate::fields::number_of_key;
 use draft_core::{DraftFault, Rv, Scope, Store};
-use plain_values::{Key, Node, Patch, PatchWhy, Safe, Val};
+use plain_values::{Key, Patch, PatchWhy, Safe, Val, ValNode};
 use std::alloc::Global;
 
 /// Why an edit was not made.
@@ -91,7 +91,7 @@ fn integer_in(value: &Val) -> Option<Safe>
     ensures { MatchOption result (is_integer value.now ≡ false) (λ n. value.now ≡ number_of n) }
 {
     match &value.node {
-        Node::Prim(key) => number_of_key(key),
+        ValNode::Prim(key) => number_of_key(key),
         _ => None,
     }
 }

@@ -2,7 +2,7 @@
 ghost use Rattle.std.specs.Prelude.{◌≡◌, ◌<◌, ◌≤◌, ◌+◌, ◌^◌, map, min, length, false, IsTrue, IfOk, MatchOption, Some, slice_get};
 ghost use Rattle.value_model.specs.Plain.{prim, entries, weights, weight};
 ghost use Rattle.value_model.specs.declared.key.Key.TheVariants as key;
-ghost use Rattle.value_model.specs.declared.words.Kind.TheVariants as kind;
+ghost use Rattle.value_model.specs.declared.kind.Kind.TheVariants as kind;
 ghost use Rattle.numbered.specs.Store.{tree_at};
 ghost use Rattle.node_store.specs.Nodes.{cells_of};
 ghost use Rattle.host_machine.specs.Flat.{is_integer, is_flat_table};

@@ -3,7 +3,7 @@ ghost use Rattle.std.specs.Prelude.{◌≡◌, ◌≤◌, ◌^◌, ◌+◌, ◌+
 ghost use Rattle.std.specs.FinMap.Entries.{is_sorted};
 ghost use Rattle.value_model.specs.Order.{key_cmp};
 ghost use Rattle.value_model.specs.declared.key.Key.TheVariants as key;
-ghost use Rattle.value_model.specs.declared.words.Op.TheVariants as op;
+ghost use Rattle.value_model.specs.declared.op.Op.TheVariants as op;
 ghost use Rattle.host_machine.specs.Differences.{same, patch as patch_of, differences as differences_of, path_weight as weight_of_path, value_weight as weight_of_value, patch_weight as weight_of_patch, patches_weight as weight_of_patches};
 ghost use Rattle.host_engine.specs.Kept.{of_field, number_of};
 ghost use Rattle.host_engine.specs.Pairs.{first_patches};

@@ -5,7 +5,7 @@ use Rattle.std.specs.Ordering.{is_lt}
 use Rattle.std.specs.FinMap.Entries.{find, put, is_sorted, below_all}
 use Rattle.std.proofs.lemmas.Bool.{and_from}
 use Rattle.value_model.specs.declared.key.Key.{Key}
-use Rattle.value_model.specs.declared.words.Op.TheVariants.{Add, Remove}
+use Rattle.value_model.specs.declared.op.Op.TheVariants.{Add, Remove}
 use Rattle.value_model.specs.Order.{key_cmp, key_total, key_exact}
 use Rattle.value_model.specs.Plain.{Plain, Table}
 use Rattle.value_model.specs.Search.{left_true, right_true, less_from_test, none_below, turned}

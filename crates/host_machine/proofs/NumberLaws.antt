@@ -5,7 +5,7 @@ use Rattle.std.specs.FinMap.Entries.{find}
 use Rattle.std.specs.Ordering.{eq_by_cmp}
 use Rattle.value_model.specs.declared.key.Key.{Key}
 use Rattle.value_model.specs.declared.key.Key.TheVariants as key
-use Rattle.value_model.specs.declared.words.Kind.TheVariants as kind
+use Rattle.value_model.specs.declared.kind.Kind.TheVariants as kind
 use Rattle.value_model.specs.Order.{key_cmp}
 use Rattle.value_model.specs.Plain as plain_value
 use Rattle.value_model.specs.Plain.{Plain, Table, entries, weight}

@@ -7,10 +7,10 @@ use Rattle.std.proofs.lemmas.Cmp.{tied_itself}
 use lib.Dec.{T}
 use Rattle.value_model.specs.declared.key.Key.{Key}
 use Rattle.value_model.specs.declared.key.Key.TheVariants as key
-use Rattle.value_model.specs.declared.words.Kind.TheVariants as kind
-use Rattle.value_model.specs.declared.words.Op.{Op}
-use Rattle.value_model.specs.declared.words.Op.TheVariants as op
-use Rattle.value_model.specs.declared.words.PatchWhy.{PatchWhy}
+use Rattle.value_model.specs.declared.kind.Kind.TheVariants as kind
+use Rattle.value_model.specs.declared.op.Op.{Op}
+use Rattle.value_model.specs.declared.op.Op.TheVariants as op
+use Rattle.value_model.specs.declared.patch_why.PatchWhy.{PatchWhy}
 use Rattle.value_model.specs.Limits.{is_long_key, is_reserved_key, is_reserved_text}
 use Rattle.value_model.specs.Order.{key_cmp, key_total, key_exact}
 use Rattle.value_model.specs.Places.{without_key}

@@ -2,8 +2,8 @@
 use Rattle.std.proofs.Common.{◌≡◌, List, [], ◌∷◌, ap, refl, sym, ◌∙◌, Bool, false}
 use Rattle.std.specs.Prelude.{IsTrue, Result, Err}
 use Rattle.value_model.specs.declared.key.Key.{Key}
-use Rattle.value_model.specs.declared.words.Op.{Op}
-use Rattle.value_model.specs.declared.words.Op.TheVariants as op
+use Rattle.value_model.specs.declared.op.Op.{Op}
+use Rattle.value_model.specs.declared.op.Op.TheVariants as op
 use Rattle.value_model.specs.Plain.{Plain}
 use Rattle.value_model.specs.Search.{left_true, right_true}
 use Rattle.values.specs.declared.patch.Patch.{Patch}

@@ -2,8 +2,8 @@
 use Rattle.std.specs.Prelude.{◌≡◌, pos, List, [], ◌∷◌, codes, Some, None, refl}
 use Rattle.value_model.specs.declared.key.Key.{Key}
 use Rattle.value_model.specs.declared.key.Key.TheVariants.{Int, Text}
-use Rattle.value_model.specs.declared.words.Kind.TheVariants as kind
-use Rattle.value_model.specs.declared.words.Op.TheVariants.{Add}
+use Rattle.value_model.specs.declared.kind.Kind.TheVariants as kind
+use Rattle.value_model.specs.declared.op.Op.TheVariants.{Add}
 use Rattle.value_model.specs.Plain.{Plain, prim, node, none, entry}
 use Rattle.values.specs.declared.patch.Patch.{Patch}
 use Rattle.plain_values.specs.declared.command.Command.TheVariants as command

@@ -1,7 +1,7 @@
 -- The host machine, on a flat state: each command runs on a plain deep copy.
 use Rattle.std.specs.Prelude.{ℕ, ◌+◌, ◌-◌, ◌^◌, ◌==◌, min, ◌||◌, nat_lt, List, [], ◌∷◌, Bool, false, not, Option, Some, None, Result, Ok, Err, if◌then◌else◌}
-use Rattle.value_model.specs.declared.words.Kind.TheVariants as kind
-use Rattle.value_model.specs.declared.words.PatchWhy.{PatchWhy}
+use Rattle.value_model.specs.declared.kind.Kind.TheVariants as kind
+use Rattle.value_model.specs.declared.patch_why.PatchWhy.{PatchWhy}
 use Rattle.value_model.specs.declared.key.Key.{Key}
 use Rattle.value_model.specs.Places.{at}
 use Rattle.value_model.specs.Plain.{Plain, Table, prim, node, none, list_of, weight}

@@ -6,19 +6,19 @@ use Rattle.serde_json.specs.Data.{Data, null, boolean, number, string, array, ob
 use Rattle.serde_json.specs.Find.{get, as_array, as_number, as_str}
 use Rattle.value_model.specs.declared.key.Key.{Key}
 use Rattle.value_model.specs.declared.key.Key.TheVariants as key
-use Rattle.value_model.specs.declared.words.Op.{Op}
-use Rattle.value_model.specs.declared.words.Op.TheVariants as op
-use Rattle.value_model.specs.declared.words.Limit.{Limit}
+use Rattle.value_model.specs.declared.op.Op.{Op}
+use Rattle.value_model.specs.declared.op.Op.TheVariants as op
+use Rattle.value_model.specs.declared.limit.Limit.{Limit}
 use Rattle.value_model.specs.Plain.{Plain, prim}
 use Rattle.value_model.specs.Search.{left_true, right_true}
 use Rattle.values.specs.declared.patch.Patch.{Patch}
-use Rattle.value_text.specs.Answers.{and_then, result_map}
-use Rattle.value_text.specs.declared.why.JsonWhy.{JsonWhy}
-use Rattle.value_text.specs.declared.why.JsonWhy.TheVariants as why
-use Rattle.value_text.specs.Patches.{steps_if, walked_if, patch_of, patch_walked, all_limited, list_if, patches_from, are_patches, op_in, has_members, member_count, first_limit}
-use Rattle.value_text.specs.Reading.{text_from, key_from, safe_from, walked, all_from, limited_by}
+use Rattle.value_json_spec.specs.Answers.{and_then, result_map}
+use Rattle.value_json_spec.specs.declared.why.JsonWhy.{JsonWhy}
+use Rattle.value_json_spec.specs.declared.why.JsonWhy.TheVariants as why
+use Rattle.value_json_spec.specs.Patches.{steps_if, walked_if, patch_of, patch_walked, all_limited, list_if, patches_from, are_patches, op_in, has_members, member_count, first_limit}
+use Rattle.value_json_spec.specs.Reading.{text_from, key_from, safe_from, walked, all_from, limited_by}
 use Rattle.host_machine.specs.Flat.{is_integer, is_flat_path, is_flat_value, is_flat_patch, are_flat}
-use Rattle.line_text.specs.Commands.{text_in, only_item, has_name_path, has_flat_value, is_flat_patch_data, are_flat_items, are_flat_if}
+use Rattle.host_protocol_spec.specs.Commands.{text_in, only_item, has_name_path, has_flat_value, is_flat_patch_data, are_flat_items, are_flat_if}
 
 abbrev Answer : Type 0 → Type 0
 Answer X = Result X JsonWhy

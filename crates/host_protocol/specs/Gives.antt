@@ -4,7 +4,7 @@ use Rattle.plain_values.specs.declared.command.Command.{Command}
 use Rattle.plain_values.specs.declared.refusal.Refusal.{Refusal}
 use Rattle.value_json.specs.declared.fault.JsonFault.{JsonFault}
 use Rattle.value_json.specs.declared.fault.JsonFault.TheVariants as json
-use Rattle.line_text.specs.Commands.{json_refusal}
+use Rattle.host_protocol_spec.specs.Commands.{json_refusal}
 use Rattle.host_protocol.specs.declared.read.LineFault.{LineFault}
 use Rattle.host_protocol.specs.declared.read.LineFault.TheVariants.{Memory, Refused}
 

@@ -2,8 +2,8 @@
 ghost use Rattle.std.specs.Prelude.{◌≡◌, ◌<◌, option_map, is_some};
 ghost use Rattle.serde_json.specs.Find.{as_str};
 ghost use Rattle.serde_json.specs.View.{view};
-ghost use Rattle.line_text.specs.Commands as spec;
-ghost use Rattle.value_text.specs.Patches as form;
+ghost use Rattle.host_protocol_spec.specs.Commands as spec;
+ghost use Rattle.value_json_spec.specs.Patches as form;
 
 use plain_values::Word;
 use serde_json::Value;

@@ -1,6 +1,6 @@
 //! The lines of the host: the command that a line is, and the line of a reply (JSON texts of RFC 8259).
 //!
-//! The definitions stand in `line_text`.
+//! The definitions stand in `host_protocol_spec`.
 #![tactic(auto)]
 
 mod flat;

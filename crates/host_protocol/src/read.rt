@@ -3,13 +3,13 @@ ghost use Rattle.std.specs.Prelude.{◌≡◌, IfOk, IsTrue, Err, Some, option_m
 ghost use Rattle.serde_json.specs.Find.{as_array};
 ghost use Rattle.serde_json.specs.View.{view};
 ghost use Rattle.host_machine.specs.Flat.{is_built};
-ghost use Rattle.line_text.specs.Commands.{are_flat_if, command_of, is_long_line, json_refusal, of_form, of_patches, of_word, path_if, with_patches, with_path, word_in};
+ghost use Rattle.host_protocol_spec.specs.Commands.{are_flat_if, command_of, is_long_line, json_refusal, of_form, of_patches, of_word, path_if, with_patches, with_path, word_in};
 ghost use Rattle.plain_values.specs.declared.command.Command.TheVariants as command;
 ghost use Rattle.plain_values.specs.declared.refusal.Refusal.TheVariants as refusal;
 ghost use Rattle.host_protocol.specs.declared.read.LineFault.TheVariants as fault;
 ghost use Rattle.value_json.specs.Gives.{Gives as GivesJson};
 ghost use Rattle.host_protocol.specs.Gives.{Gives, IsRefusal};
-ghost use Rattle.value_text.specs.Patches.{patches_from};
+ghost use Rattle.value_json_spec.specs.Patches.{patches_from};
 
 use crate::flat::are_flat;
 use crate::forms::{self, has_form};
@@ -37,7 +37,7 @@ pub enum LineFault {
 ///
 /// The first fault is `LineTooLong`, `NotJson`, `NotCommand` where the text has none of the forms of a command, `NotYet` where
 /// it has one that isn't built so far, or the first fault of a value in it.
-#[tactic(auto, unfolding(line_text::specs::Commands::command_of))]
+#[tactic(auto, unfolding(host_protocol_spec::specs::Commands::command_of))]
 pub fn read_command(alloc: Global, line: &[u8]) -> Result<Command, LineFault>
     ensures gives { Gives result (command_of line.now) }
     ensures built { IfOk result (λ c. IsTrue (is_built c)) }
@@ -51,7 +51,7 @@ pub fn read_command(alloc: Global, line: &[u8]) -> Result<Command, LineFault>
     }
 }
 
-#[tactic(auto, unfolding(line_text::specs::Commands::is_long_line))]
+#[tactic(auto, unfolding(host_protocol_spec::specs::Commands::is_long_line))]
 fn is_long(line: &[u8]) -> bool
     ensures { result ≡ is_long_line line.now }
 {

@@ -4,7 +4,7 @@ ghost use Rattle.serde.specs.Event.{Logs, Then, field_key};
 ghost use Rattle.serde.specs.declared.name.Case.TheVariants.{AsIs};
 ghost use Rattle.serde_json.specs.Events.{SendsValue, SendsMembers};
 ghost use Rattle.plain_values.specs.declared.reply.Reply.TheVariants as reply;
-ghost use Rattle.line_text.specs.Replies.{refusal_members, reply_data, reply_line};
+ghost use Rattle.host_protocol_spec.specs.Replies.{refusal_members, reply_data, reply_line};
 
 use plain_values::{Pair, Refusal, Reply, Val, Word};
 use serde::{Described, Serialize, Serializer};
@@ -89,7 +89,7 @@ fn member<T: Serialize, S: Serializer>(name: &str, value: &T, out: &mut S) -> Re
     value.serialize(out)
 }
 
-#[tactic(auto, unfolding(line_text::specs::Replies::reply_data))]
+#[tactic(auto, unfolding(host_protocol_spec::specs::Replies::reply_data))]
 fn send_changed<S: Serializer>(
     word: &Word,
     pair: &Pair,
@@ -114,7 +114,7 @@ fn send_changed<S: Serializer>(
     out.end_map()
 }
 
-#[tactic(auto, unfolding(line_text::specs::Replies::reply_data))]
+#[tactic(auto, unfolding(host_protocol_spec::specs::Replies::reply_data))]
 fn send_state<S: Serializer>(value: &Val, out: &mut S) -> Result<(), S::Error>
     ensures { OnOk result (SendsValue (reply_data (reply.State value.now)) (S.written out.old) (S.written out.new)) }
 {
@@ -124,7 +124,7 @@ fn send_state<S: Serializer>(value: &Val, out: &mut S) -> Result<(), S::Error>
     out.end_map()
 }
 
-#[tactic(auto, unfolding(line_text::specs::Replies::reply_data))]
+#[tactic(auto, unfolding(host_protocol_spec::specs::Replies::reply_data))]
 fn send_node<S: Serializer>(number: u64, out: &mut S) -> Result<(), S::Error>
     ensures { OnOk result (SendsValue (reply_data (reply.Node (Some number))) (S.written out.old) (S.written out.new)) }
 {
@@ -134,7 +134,7 @@ fn send_node<S: Serializer>(number: u64, out: &mut S) -> Result<(), S::Error>
     out.end_map()
 }
 
-#[tactic(auto, unfolding(line_text::specs::Replies::reply_data))]
+#[tactic(auto, unfolding(host_protocol_spec::specs::Replies::reply_data))]
 fn send_no_node<S: Serializer>(out: &mut S) -> Result<(), S::Error>
     ensures { OnOk result (SendsValue (reply_data (reply.Node None)) (S.written out.old) (S.written out.new)) }
 {
@@ -155,7 +155,7 @@ struct Counts {
     used: u64,
 }
 
-#[tactic(auto, unfolding(line_text::specs::Replies::reply_data))]
+#[tactic(auto, unfolding(host_protocol_spec::specs::Replies::reply_data))]
 fn send_stat<S: Serializer>(c: Counts, out: &mut S) -> Result<(), S::Error>
     ensures { OnOk result (SendsValue (reply_data (reply.Stat c.nodes c.redo c.seq c.sessions c.undo c.used)) (S.written out.old) (S.written out.new)) }
 {
@@ -170,7 +170,7 @@ fn send_stat<S: Serializer>(c: Counts, out: &mut S) -> Result<(), S::Error>
     out.end_map()
 }
 
-#[tactic(auto, unfolding(line_text::specs::Replies::reply_data))]
+#[tactic(auto, unfolding(host_protocol_spec::specs::Replies::reply_data))]
 fn send_refusal_at<S: Serializer>(
     word: &Word,
     at: u64,
@@ -184,7 +184,7 @@ fn send_refusal_at<S: Serializer>(
     send_why(word, why, out)
 }
 
-#[tactic(auto, unfolding(line_text::specs::Replies::reply_data))]
+#[tactic(auto, unfolding(host_protocol_spec::specs::Replies::reply_data))]
 fn send_refusal<S: Serializer>(word: &Word, why: &Refusal, out: &mut S) -> Result<(), S::Error>
     ensures { OnOk result (SendsValue (reply_data (reply.No word.now None why.now)) (S.written out.old) (S.written out.new)) }
 {

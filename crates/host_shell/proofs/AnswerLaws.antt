@@ -4,7 +4,7 @@ use Rattle.std.specs.Io.KnownBytes.{Appends}
 use Rattle.std.proofs.KnownBytes.{Appends-nil}
 use Rattle.plain_values.specs.declared.reply.Reply.{Reply}
 use Rattle.host_machine.specs.Machine.{Machine, Turned}
-use Rattle.line_text.specs.Replies.{reply_line}
+use Rattle.host_protocol_spec.specs.Replies.{reply_line}
 use Rattle.stream_run.specs.Lines.{is_blank}
 use Rattle.stream_run.specs.Runs.{answer_to, line_answer, machine_after}
 use Rattle.host_shell.specs.Ends.{IsAnswered, IsHeld, TakesPart}

@@ -4,9 +4,9 @@ use Rattle.std.specs.Prelude.{IsTrue, Option, Some, None, Result, Ok, Err, codes
 use Rattle.serde_json.specs.Data.{Data}
 use Rattle.serde_json.specs.Find.{get, as_array}
 use Rattle.value_model.specs.declared.key.Key.{Key}
-use Rattle.value_text.specs.declared.why.JsonWhy.{JsonWhy}
-use Rattle.value_text.specs.Patches.{patches_from}
-use Rattle.value_text.specs.Reading.{json_of}
+use Rattle.value_json_spec.specs.declared.why.JsonWhy.{JsonWhy}
+use Rattle.value_json_spec.specs.Patches.{patches_from}
+use Rattle.value_json_spec.specs.Reading.{json_of}
 use Rattle.values.specs.declared.patch.Patch.{Patch}
 use Rattle.plain_values.specs.declared.command.Command.{Command}
 use Rattle.plain_values.specs.declared.command.Command.TheVariants as command
@@ -19,7 +19,7 @@ use Rattle.host_machine.specs.Flat.{is_built, are_flat}
 use Rattle.host_machine.specs.Machine.{Machine, value, first_machine}
 use Rattle.host_machine.proofs.CarryLaws.{IsCarried, step_carried}
 use Rattle.host_protocol.proofs.FormLaws.{patches_flat}
-use Rattle.line_text.specs.Commands.{are_flat_if, with_patches, with_path, path_if, has_form, word_in, of_patches, of_form, of_word, of_json, is_long_line, command_of}
+use Rattle.host_protocol_spec.specs.Commands.{are_flat_if, with_patches, with_path, path_if, has_form, word_in, of_patches, of_form, of_word, of_json, is_long_line, command_of}
 use Rattle.stream_run.specs.Lines.{is_blank, lines}
 use Rattle.stream_run.specs.Runs.{answer, answer_to, machine_after}
 use Rattle.host_shell.specs.Carried.{AllCarry}

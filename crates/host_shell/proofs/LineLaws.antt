@@ -6,7 +6,7 @@ use Rattle.std.proofs.lemmas.List.{length-append}
 use Rattle.std.proofs.lemmas.Bool.Decides.{Decides-ltb}
 use Rattle.plain_values.specs.declared.refusal.Refusal.TheVariants as refusal
 use Rattle.host_machine.specs.Machine.{Machine}
-use Rattle.line_text.specs.Commands.{command_of, is_long_line}
+use Rattle.host_protocol_spec.specs.Commands.{command_of, is_long_line}
 use Rattle.stream_run.specs.Lines.{is_blank, is_space}
 use Rattle.stream_run.specs.Runs.{answer, answer_to}
 use Rattle.host_shell.specs.Line.{Holds}

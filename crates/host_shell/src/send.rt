@@ -2,7 +2,7 @@
 ghost use Rattle.std.specs.Prelude.{◌≡◌, ◌≤◌, ◌++◌, ◌∷◌, [], OnOk, OnErr, IfErr};
 ghost use Rattle.std.specs.Io.KnownBytes.{Appends};
 ghost use Rattle.io_edges.specs.Causes.{HasCause};
-ghost use Rattle.line_text.specs.Replies.{reply_line};
+ghost use Rattle.host_protocol_spec.specs.Replies.{reply_line};
 ghost use Rattle.host_shell.specs.Ends.{StopsFor, TakesPart};
 
 use crate::status::Status;

@@ -1,8 +1,8 @@
 -- What the store holds of each node, and when it is right.
 use Rattle.std.specs.Prelude.{◌≡◌, ℕ, ◌+◌, List, [], ◌∷◌, ◌++◌, length, ⊤}
 use Rattle.value_model.specs.declared.key.Key.{Key}
-use Rattle.value_model.specs.declared.words.Kind.{Kind}
-use Rattle.value_model.specs.declared.words.Kind.TheVariants as kind
+use Rattle.value_model.specs.declared.kind.Kind.{Kind}
+use Rattle.value_model.specs.declared.kind.Kind.TheVariants as kind
 use Rattle.value_model.specs.Plain as plain_value
 use Rattle.numbered.specs.Tree.{Tree, node, plain, containers, own_weight}
 use Rattle.numbered.specs.Store.{tree_at, used, IsNext}

@@ -8,9 +8,9 @@ use Rattle.std.specs.FinMap.Entries.{is_sorted}
 use Rattle.std.proofs.lemmas.Bool.{or_left, and_from, or_parts}
 use Rattle.value_model.specs.declared.key.Key.{Key}
 use Rattle.value_model.specs.declared.key.Key.TheVariants as key
-use Rattle.value_model.specs.declared.words.Kind.{Kind}
-use Rattle.value_model.specs.declared.words.Kind.TheVariants as kind
-use Rattle.value_model.specs.declared.words.Limit.TheVariants as limit
+use Rattle.value_model.specs.declared.kind.Kind.{Kind}
+use Rattle.value_model.specs.declared.kind.Kind.TheVariants as kind
+use Rattle.value_model.specs.declared.limit.Limit.TheVariants as limit
 use Rattle.value_model.specs.Limits.{value_limit, state_limit, has_long_key, any_long_key, has_reserved_key, any_reserved_key, is_long_key, is_reserved_at}
 use Rattle.value_model.specs.Order.{key_cmp, key_total}
 use Rattle.value_model.specs.Plain as plain_value

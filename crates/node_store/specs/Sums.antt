@@ -1,8 +1,8 @@
 -- What the cells of a table measure together.
 use Rattle.std.proofs.Common.{◌≡◌, ℕ, ◌+◌, ◌^◌, ◌≤◌, List, [], ◌∷◌, map, max, refl, ap, ◌∙◌, arith}
 use Rattle.value_model.specs.declared.key.Key.{Key}
-use Rattle.value_model.specs.declared.words.Kind.{Kind}
-use Rattle.value_model.specs.declared.words.Kind.TheVariants as kind
+use Rattle.value_model.specs.declared.kind.Kind.{Kind}
+use Rattle.value_model.specs.declared.kind.Kind.TheVariants as kind
 use Rattle.value_model.specs.Plain as plain_value
 use Rattle.value_model.specs.Plain.{key_weight, place_weight}
 use Rattle.numbered.specs.Tree as tree

@@ -4,8 +4,8 @@ use Rattle.std.specs.Prelude.{IsTrue}
 use Rattle.std.specs.List.{zip}
 use Rattle.value_model.specs.declared.key.Key.{Key}
 use Rattle.value_model.specs.declared.key.Key.TheVariants as key
-use Rattle.value_model.specs.declared.words.Kind.{Kind}
-use Rattle.value_model.specs.declared.words.Kind.TheVariants as kind
+use Rattle.value_model.specs.declared.kind.Kind.{Kind}
+use Rattle.value_model.specs.declared.kind.Kind.TheVariants as kind
 use Rattle.value_model.specs.Order.{key_cmp}
 use Rattle.value_model.specs.Places.{ascends_at}
 use Rattle.value_model.specs.Steps.{list_of_entries}

@@ -2,7 +2,7 @@
 ghost use Rattle.std.specs.Prelude.{◌≡◌, ℕ, ◌+◌, ◌-◌, ◌≤◌, ◌^◌, ◌||◌, nat_lt, List, length, map, take};
 ghost use Rattle.std.specs.List.{range_with_len};
 ghost use Rattle.value_model.specs.Plain.{Plain, Entries, weight, node as container};
-ghost use Rattle.value_model.specs.declared.words.Kind.{Kind as KindModel};
+ghost use Rattle.value_model.specs.declared.kind.Kind.{Kind as KindModel};
 ghost use Rattle.numbered.specs.Loading.{places, numbered, post_order, additions, load_full};
 ghost use Rattle.numbered.specs.Store.{IsNumber, IsStore, tree_at, used};
 ghost use Rattle.numbered.specs.Tree.{Tree, plain, number, IsNumberedState};

@@ -5,7 +5,7 @@ ghost use Rattle.std.specs.FinMap.Entries.{is_sorted};
 ghost use Rattle.value_model.specs.Limits.{value_limit, state_limit};
 ghost use Rattle.value_model.specs.Order.{key_cmp};
 ghost use Rattle.value_model.specs.Plain as plain_value;
-ghost use Rattle.value_model.specs.declared.words.Kind.TheVariants as kind;
+ghost use Rattle.value_model.specs.declared.kind.Kind.TheVariants as kind;
 ghost use Rattle.values.specs.Seen.{of_field, of_entry, of_member, of_fields, of_items, of_entries, of_members};
 ghost use Rattle.numbered.specs.Loading.{loaded, load_full};
 ghost use Rattle.numbered.specs.Store.{tree_at};
@@ -62,11 +62,11 @@ fn load_cell(store: &mut Store, alloc: Global, v: &Val) -> Result<Cell, StoreFau
     ensures { Loads result store.old store.new v.now }
 {
     match &v.node {
-        values::Node::Prim(key) => Ok(Cell::Prim(key.copy(alloc)?)),
-        values::Node::Obj(fields) => load_object(store, alloc, fields),
-        values::Node::List(items) => load_list(store, alloc, items),
-        values::Node::Map(entries) => load_map(store, alloc, entries),
-        values::Node::Set(members) => load_set(store, alloc, members),
+        values::ValNode::Prim(key) => Ok(Cell::Prim(key.copy(alloc)?)),
+        values::ValNode::Obj(fields) => load_object(store, alloc, fields),
+        values::ValNode::List(items) => load_list(store, alloc, items),
+        values::ValNode::Map(entries) => load_map(store, alloc, entries),
+        values::ValNode::Set(members) => load_set(store, alloc, members),
     }
 }
 

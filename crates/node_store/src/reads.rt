@@ -1,7 +1,7 @@
 //! Reading a node: all of these take no memory.
 ghost use Rattle.std.specs.Prelude.{◌≡◌, ◌≢◌, ℕ, ◌+◌, ◌-◌, ◌<◌, ◌≤◌, ◌^◌, Some, MatchOption, length, slice_get};
 ghost use Rattle.value_model.specs.Plain as plain_value;
-ghost use Rattle.value_model.specs.declared.words.Kind.TheVariants as kind;
+ghost use Rattle.value_model.specs.declared.kind.Kind.TheVariants as kind;
 ghost use Rattle.numbered.specs.Tree as tree;
 ghost use Rattle.numbered.specs.Tree.{plain, branches_of, children};
 ghost use Rattle.numbered.specs.Store.{IsNumber, tree_at};

@@ -36,16 +36,16 @@ fn unfold_node(store: &Store, alloc: Global, id: NodeId) -> Result<Val, AllocErr
     let cells = held.cells.as_slice();
     match held.kind {
         Kind::Obj => Ok(Val {
-            node: values::Node::Obj(unfold_fields(store, alloc, keys, cells)?),
+            node: values::ValNode::Obj(unfold_fields(store, alloc, keys, cells)?),
         }),
         Kind::List => Ok(Val {
-            node: values::Node::List(unfold_items(store, alloc, cells)?),
+            node: values::ValNode::List(unfold_items(store, alloc, cells)?),
         }),
         Kind::Map => Ok(Val {
-            node: values::Node::Map(unfold_entries(store, alloc, keys, cells)?),
+            node: values::ValNode::Map(unfold_entries(store, alloc, keys, cells)?),
         }),
         Kind::Set => Ok(Val {
-            node: values::Node::Set(unfold_members(alloc, cells)?),
+            node: values::ValNode::Set(unfold_members(alloc, cells)?),
         }),
     }
 }

@@ -7,8 +7,8 @@ use Rattle.std.proofs.lemmas.Grind.{common_steps, elements}
 use Rattle.std.proofs.lemmas.Bool.{or_right}
 use Rattle.value_model.specs.declared.key.Key.{Key}
 use Rattle.value_model.specs.declared.key.Key.TheVariants as key
-use Rattle.value_model.specs.declared.words.Kind.{Kind}
-use Rattle.value_model.specs.declared.words.Limit.TheVariants as limit
+use Rattle.value_model.specs.declared.kind.Kind.{Kind}
+use Rattle.value_model.specs.declared.limit.Limit.TheVariants as limit
 use Rattle.value_model.specs.Limits.{value_limit, state_limit}
 use Rattle.value_model.specs.Well.{well}
 use Rattle.value_model.specs.Plain as plain_value

@@ -6,12 +6,12 @@ use Rattle.std.proofs.Common.{take, drop}
 use Rattle.std.specs.FinMap.Entries.{put}
 use Rattle.value_model.specs.declared.key.Key.{Key}
 use Rattle.value_model.specs.declared.key.Key.TheVariants.{Null, Int, Text}
-use Rattle.value_model.specs.declared.words.Kind.{Kind}
-use Rattle.value_model.specs.declared.words.Kind.TheVariants as kind
-use Rattle.value_model.specs.declared.words.Op.{Op}
-use Rattle.value_model.specs.declared.words.Op.TheVariants.{Add, Replace, Remove}
-use Rattle.value_model.specs.declared.words.PatchWhy.{PatchWhy}
-use Rattle.value_model.specs.declared.words.PatchWhy.TheVariants as why
+use Rattle.value_model.specs.declared.kind.Kind.{Kind}
+use Rattle.value_model.specs.declared.kind.Kind.TheVariants as kind
+use Rattle.value_model.specs.declared.op.Op.{Op}
+use Rattle.value_model.specs.declared.op.Op.TheVariants.{Add, Replace, Remove}
+use Rattle.value_model.specs.declared.patch_why.PatchWhy.{PatchWhy}
+use Rattle.value_model.specs.declared.patch_why.PatchWhy.TheVariants as why
 use Rattle.value_model.specs.Limits.{is_long_key, is_reserved_text, is_reserved_key}
 use Rattle.value_model.specs.Order.{key_cmp}
 use Rattle.value_model.specs.Places.{child_at, without_key}

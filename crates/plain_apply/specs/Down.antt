@@ -12,16 +12,16 @@ use Rattle.value_model.specs.Limits.{is_reserved_text}
 use Rattle.value_model.specs.Order.{key_cmp}
 use Rattle.value_model.specs.Search.{IsPlace, found_at, put_found}
 use Rattle.value_model.specs.declared.key.Key.TheVariants as key
-use Rattle.value_model.specs.declared.words.Kind.TheVariants as kind
+use Rattle.value_model.specs.declared.kind.Kind.TheVariants as kind
 use Rattle.values.specs.Seen.{of_field, of_fields, of_entry, of_entries, of_item, of_items}
 use Rattle.values.specs.declared.val.Entry.{Entry}
 use Rattle.values.specs.declared.val.Field.{Field}
 use Rattle.patch_meaning.specs.Applying.{unless, is_reserved_step, as_child, into_child, patched}
 use Rattle.value_model.specs.declared.key.Key.{Key}
-use Rattle.value_model.specs.declared.words.Kind.{Kind}
-use Rattle.value_model.specs.declared.words.Op.{Op}
-use Rattle.value_model.specs.declared.words.PatchWhy.{PatchWhy}
-use Rattle.value_model.specs.declared.words.PatchWhy.TheVariants as why
+use Rattle.value_model.specs.declared.kind.Kind.{Kind}
+use Rattle.value_model.specs.declared.op.Op.{Op}
+use Rattle.value_model.specs.declared.patch_why.PatchWhy.{PatchWhy}
+use Rattle.value_model.specs.declared.patch_why.PatchWhy.TheVariants as why
 use Rattle.value_model.specs.Places.{child_at}
 use Rattle.value_model.specs.Plain.{Plain, Table, Entries, prim, node, entries, list_of}
 

@@ -6,7 +6,7 @@ use Rattle.plain_apply.specs.declared.fault.ApplyFault.TheVariants as fault
 use Rattle.plain_apply.specs.declared.fault.EditFault.{EditFault}
 use Rattle.plain_apply.specs.declared.fault.EditFault.TheVariants as edit
 use Rattle.value_model.specs.Plain.{Plain}
-use Rattle.value_model.specs.declared.words.PatchWhy.{PatchWhy}
+use Rattle.value_model.specs.declared.patch_why.PatchWhy.{PatchWhy}
 
 abbrev pub Fails : {Y : Type 0} → EditFault → Result Y PatchWhy → Type 0
 Fails edit.Memory r = Unit {0}

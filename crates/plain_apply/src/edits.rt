@@ -7,14 +7,14 @@ ghost use Rattle.value_model.specs.Limits.{is_long_key, is_reserved_text};
 ghost use Rattle.value_model.specs.Order.{key_cmp};
 ghost use Rattle.value_model.specs.Places.{without_key};
 ghost use Rattle.value_model.specs.Plain.{prim};
-ghost use Rattle.value_model.specs.declared.words.Op.TheVariants as op;
+ghost use Rattle.value_model.specs.declared.op.Op.TheVariants as op;
 ghost use Rattle.value_model.specs.declared.key.Key.TheVariants as key_of;
 ghost use Rattle.values.specs.Seen.{of_field, of_entry, of_item, of_member};
 
 use crate::fault::EditFault;
 use crate::tables::{put_entry, put_field, put_member, remove_entry, remove_field, remove_member};
 use std::alloc::Global;
-use values::{Entry, Field, Key, Node, Op, PatchWhy, Safe, Text, Val};
+use values::{Entry, Field, Key, ValNode, Op, PatchWhy, Safe, Text, Val};
 
 const LONGEST: usize = 1024;
 
@@ -194,14 +194,14 @@ fn added(alloc: Global, members: Vec<Key>, value: &Val) -> Result<Vec<Key>, Edit
     ensures sorted { IfOk result (λ ks. IsTrue (is_sorted key_cmp (map of_member ks.items))) }
 {
     match &value.node {
-        Node::Prim(key) => {
+        ValNode::Prim(key) => {
             if is_long(key) {
                 Err(EditFault::Refused(PatchWhy::KeyTooLong))
             } else {
                 member_added(alloc, members, key)
             }
         }
-        Node::Obj(_) | Node::List(_) | Node::Map(_) | Node::Set(_) => {
+        ValNode::Obj(_) | ValNode::List(_) | ValNode::Map(_) | ValNode::Set(_) => {
             Err(EditFault::Refused(PatchWhy::BadKey))
         }
     }
@@ -213,8 +213,8 @@ fn removed(members: Vec<Key>, value: &Val) -> Result<Vec<Key>, EditFault>
     ensures sorted { IfOk result (λ ks. IsTrue (is_sorted key_cmp (map of_member ks.items))) }
 {
     match &value.node {
-        Node::Prim(key) => Ok(member_removed(members, key)),
-        Node::Obj(_) | Node::List(_) | Node::Map(_) | Node::Set(_) => {
+        ValNode::Prim(key) => Ok(member_removed(members, key)),
+        ValNode::Obj(_) | ValNode::List(_) | ValNode::Map(_) | ValNode::Set(_) => {
             Err(EditFault::Refused(PatchWhy::BadKey))
         }
     }

@@ -10,7 +10,7 @@ ghost use Rattle.values.specs.Seen.{of_item};
 
 use crate::fault::EditFault;
 use std::alloc::Global;
-use values::{Key, Node, Op, PatchWhy, Safe, Text, Val};
+use values::{Key, ValNode, Op, PatchWhy, Safe, Text, Val};
 
 pub(crate) fn in_list(
     alloc: Global,
@@ -180,8 +180,8 @@ fn cut_to(items: Vec<Val>, value: &Val) -> Result<Vec<Val>, EditFault>
     ensures { GivesBy (λ vs. map of_item vs.items) result (spec.cut_to (map of_item items.items) value.now) }
 {
     match &value.node {
-        Node::Prim(key) => cut_at(items, key),
-        Node::Obj(_) | Node::List(_) | Node::Map(_) | Node::Set(_) => {
+        ValNode::Prim(key) => cut_at(items, key),
+        ValNode::Obj(_) | ValNode::List(_) | ValNode::Map(_) | ValNode::Set(_) => {
             Err(EditFault::Refused(PatchWhy::BadKey))
         }
     }

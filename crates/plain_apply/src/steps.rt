@@ -7,7 +7,7 @@ ghost use Rattle.plain_apply.specs.Down.{below};
 ghost use Rattle.plain_apply.specs.Gives.{Gives};
 ghost use Rattle.value_model.specs.Order.{key_cmp};
 ghost use Rattle.value_model.specs.declared.key.Key.TheVariants as key_of;
-ghost use Rattle.value_model.specs.declared.words.Kind.TheVariants as kind;
+ghost use Rattle.value_model.specs.declared.kind.Kind.TheVariants as kind;
 ghost use Rattle.values.specs.Seen.{of_field, of_entry, of_item};
 
 use crate::edits::{in_map, in_object, in_set, is_reserved};
@@ -15,7 +15,7 @@ use crate::fault::EditFault;
 use crate::lists::in_list;
 use std::alloc::Global;
 use value_checks::{entry_place, field_place};
-use values::{Entry, Field, Key, Node, Op, PatchWhy, Text, Val};
+use values::{Entry, Field, Key, ValNode, Op, PatchWhy, Text, Val};
 
 /// The container with the patch at its step made.
 #[tactic(auto, using(value_model::specs::Steps::list_of_entries))]
@@ -29,18 +29,18 @@ fn edited(
     ensures { Gives result (spec.patched op value.now (step.now ∷ []) here) }
 {
     match here.node {
-        Node::Prim(_) => Err(EditFault::Refused(PatchWhy::NoPath)),
-        Node::Obj(fields) => Ok(Val {
-            node: Node::Obj(in_object(alloc, fields, op, step, value)?),
+        ValNode::Prim(_) => Err(EditFault::Refused(PatchWhy::NoPath)),
+        ValNode::Obj(fields) => Ok(Val {
+            node: ValNode::Obj(in_object(alloc, fields, op, step, value)?),
         }),
-        Node::List(items) => Ok(Val {
-            node: Node::List(in_list(alloc, items, op, step, value)?),
+        ValNode::List(items) => Ok(Val {
+            node: ValNode::List(in_list(alloc, items, op, step, value)?),
         }),
-        Node::Map(entries) => Ok(Val {
-            node: Node::Map(in_map(alloc, entries, op, step, value)?),
+        ValNode::Map(entries) => Ok(Val {
+            node: ValNode::Map(in_map(alloc, entries, op, step, value)?),
         }),
-        Node::Set(members) => Ok(Val {
-            node: Node::Set(in_set(alloc, members, op, value)?),
+        ValNode::Set(members) => Ok(Val {
+            node: ValNode::Set(in_set(alloc, members, op, value)?),
         }),
     }
 }
@@ -83,11 +83,11 @@ fn inside(
     let step = &path[at];
     let next = at + 1;
     match here.node {
-        Node::Prim(_) => Err(EditFault::Refused(PatchWhy::NoPath)),
-        Node::Set(_) => Err(EditFault::Refused(PatchWhy::NoPath)),
-        Node::Obj(fields) => inside_object(alloc, fields, step, op, value, path, next),
-        Node::List(items) => inside_list(alloc, items, step, op, value, path, next),
-        Node::Map(entries) => inside_map(alloc, entries, step, op, value, path, next),
+        ValNode::Prim(_) => Err(EditFault::Refused(PatchWhy::NoPath)),
+        ValNode::Set(_) => Err(EditFault::Refused(PatchWhy::NoPath)),
+        ValNode::Obj(fields) => inside_object(alloc, fields, step, op, value, path, next),
+        ValNode::List(items) => inside_list(alloc, items, step, op, value, path, next),
+        ValNode::Map(entries) => inside_map(alloc, entries, step, op, value, path, next),
     }
 }
 
@@ -134,7 +134,7 @@ fn inside_field(
         Ok(value) => {
             fields.insert(i, Field { key, value })?;
             Ok(Val {
-                node: Node::Obj(fields),
+                node: ValNode::Obj(fields),
             })
         }
         Err(fault) => Err(fault),
@@ -162,7 +162,7 @@ fn inside_map(
         Ok(value) => {
             entries.insert(i, Entry { key, value })?;
             Ok(Val {
-                node: Node::Map(entries),
+                node: ValNode::Map(entries),
             })
         }
         Err(fault) => Err(fault),
@@ -210,7 +210,7 @@ fn inside_item(
         Ok(value) => {
             items.insert(i as usize, value)?;
             Ok(Val {
-                node: Node::List(items),
+                node: ValNode::List(items),
             })
         }
         Err(fault) => Err(fault),

@@ -1,9 +1,9 @@
 -- The words and the names of refusals as lines spell them.
 use Rattle.std.specs.Prelude.{ℕ, List, codes}
-use Rattle.value_model.specs.declared.words.Limit.{Limit}
-use Rattle.value_model.specs.declared.words.Limit.TheVariants as limit
-use Rattle.value_model.specs.declared.words.PatchWhy.{PatchWhy}
-use Rattle.value_model.specs.declared.words.PatchWhy.TheVariants as why
+use Rattle.value_model.specs.declared.limit.Limit.{Limit}
+use Rattle.value_model.specs.declared.limit.Limit.TheVariants as limit
+use Rattle.value_model.specs.declared.patch_why.PatchWhy.{PatchWhy}
+use Rattle.value_model.specs.declared.patch_why.PatchWhy.TheVariants as why
 use Rattle.plain_values.specs.declared.command.Word.{Word}
 use Rattle.plain_values.specs.declared.command.Word.TheVariants as word
 use Rattle.plain_values.specs.declared.refusal.Refusal.{Refusal}

@@ -9,6 +9,6 @@ pub use command::{Command, Word};
 pub use refusal::Refusal;
 pub use reply::Reply;
 pub use values::{
-    Entry, Field, Key, Kind, Limit, Node, Op, Pair, Patch, PatchWhy, Patches, Path, Safe, Text,
-    TextFault, Val, depth, key_weight, values, weight,
+    Entry, Field, Key, Kind, Limit, Op, Pair, Patch, PatchWhy, Patches, Path, Safe, Text,
+    TextFault, Val, ValNode, depth, key_weight, values, weight,
 };

@@ -4,7 +4,7 @@ use Rattle.std.proofs.Math.ListN.{replicate}
 use Rattle.std.specs.Prelude.{◌≡◌, ℕ, pos, negsuc, List, [], ◌∷◌, codes, refl, Option, Some, None, Bool, true, false, Result, Ok, Err}
 use Rattle.value_model.specs.declared.key.Key.{Key}
 use Rattle.value_model.specs.declared.key.Key.TheVariants.{Null, Int, Text}
-use Rattle.value_model.specs.declared.words.Kind.TheVariants as kind
+use Rattle.value_model.specs.declared.kind.Kind.TheVariants as kind
 use Rattle.value_model.specs.Plain as plain
 use Rattle.numbered.specs.Tree.{Tree, prim, node, none, branch}
 use Rattle.run_heap.specs.declared.value.Rv.{Rv}

@@ -2,7 +2,7 @@
 -- being the root, so that a subtree that stands at two places gives two objects; each later object gets the next name.
 use Rattle.std.specs.Prelude.{ℕ, ◌+◌, ◌-◌, List, [], ◌∷◌, length, Option, Some, None, Bool, false, not, ◌&&◌, ◌||◌, ◌==◌, nat_lt, if◌then◌else◌, slice_get}
 use Rattle.value_model.specs.declared.key.Key.{Key}
-use Rattle.value_model.specs.declared.words.Kind.{Kind}
+use Rattle.value_model.specs.declared.kind.Kind.{Kind}
 use Rattle.numbered.specs.Tree.{Tree, Branches, prim, node, none, branch, containers, place}
 use Rattle.numbered.specs.Store.{tree_at}
 use Rattle.run_heap.specs.declared.value.Rv.{Rv}

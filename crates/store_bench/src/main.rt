@@ -14,7 +14,7 @@ use std::alloc::{AllocError, Global};
 use std::env;
 use std::time::{Duration, Instant};
 use value_checks::check_state;
-use values::{Key, Node, Val};
+use values::{Key, ValNode, Val};
 
 /// How many objects the list has.
 const OBJECTS: u32 = 300_000;
@@ -29,7 +29,7 @@ fn objects(alloc: Global, n: u32) -> Result<Val, AllocError> {
         items.push(Val::empty_object(alloc))?;
     }
     Ok(Val {
-        node: Node::List(items),
+        node: ValNode::List(items),
     })
 }
 
@@ -40,7 +40,7 @@ fn nulls(alloc: Global, n: u32) -> Result<Val, AllocError> {
         items.push(Val::primitive(Key::Null))?;
     }
     Ok(Val {
-        node: Node::List(items),
+        node: ValNode::List(items),
     })
 }
 

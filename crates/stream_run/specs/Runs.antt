@@ -6,8 +6,8 @@ use Rattle.plain_values.specs.declared.reply.Reply.{Reply}
 use Rattle.plain_values.specs.declared.reply.Reply.TheVariants as reply
 use Rattle.plain_values.specs.declared.refusal.Refusal.{Refusal}
 use Rattle.host_machine.specs.Machine.{Machine, step}
-use Rattle.line_text.specs.Commands.{command_of}
-use Rattle.line_text.specs.Replies.{reply_line}
+use Rattle.host_protocol_spec.specs.Commands.{command_of}
+use Rattle.host_protocol_spec.specs.Replies.{reply_line}
 use Rattle.stream_run.specs.Lines.{is_blank}
 
 abbrev pub answer : Machine → Result Command Refusal → Machine × Reply

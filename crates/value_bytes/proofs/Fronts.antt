@@ -2,9 +2,9 @@
 use Rattle.std.proofs.Common.{◌≡◌, ℕ, ◌+◌, ◌-◌, ◌≤◌, List, ◌++◌, length, take, drop, Option, Some, None, sym, ap, ◌∙◌, arith}
 use Rattle.std.proofs.lemmas.List.{take_at, take-append-drop, length-append}
 use Rattle.std.proofs.lemmas.Option.{none-some}
-use Rattle.byte_spelling.specs.Fields.{some_is}
-use Rattle.byte_spelling.specs.Formats.{IsFormat}
-use Rattle.byte_spelling.specs.Numbers.{IsBytes}
+use Rattle.value_bytes_spec.specs.Fields.{some_is}
+use Rattle.value_bytes_spec.specs.Formats.{IsFormat}
+use Rattle.value_bytes_spec.specs.Numbers.{IsBytes}
 
 module _ (A : Type 0) (spell : A → List ℕ) (good : A → Type 0) (read : List ℕ → Option (A × List ℕ)) (format : IsFormat A spell good read) where
   pub record Front (bytes : List ℕ) (x : A) (rest : List ℕ) : Type 0 where

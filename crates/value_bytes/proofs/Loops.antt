@@ -3,10 +3,10 @@ use Rattle.std.proofs.Common.{◌≡◌, ℕ, suc, ◌-◌, ◌+◌, ◌≤◌, 
 use Rattle.std.proofs.lemmas.List.{append-nil, length-append}
 use Rattle.value_model.specs.declared.key.Key.{Key}
 use Rattle.value_model.specs.declared.key.Key.TheVariants.{Null}
-use Rattle.value_model.specs.declared.words.Kind.{Kind}
-use Rattle.value_model.specs.declared.words.Kind.TheVariants as kind
+use Rattle.value_model.specs.declared.kind.Kind.{Kind}
+use Rattle.value_model.specs.declared.kind.Kind.TheVariants as kind
 use Rattle.value_model.specs.Plain.{Plain, prim}
-use Rattle.byte_spelling.specs.Reading.{◌>>=◌, key_at, entry_at, follows, entries_at, prim_at, value_within, nested_at}
+use Rattle.value_bytes_spec.specs.Reading.{◌>>=◌, key_at, entry_at, follows, entries_at, prim_at, value_within, nested_at}
 use Rattle.value_bytes.specs.declared.stop.Stop.{Stop}
 use Rattle.value_bytes.specs.declared.stop.Stop.TheVariants.{NoSpelling, Memory}
 use Rattle.value_bytes.specs.Gives.{Stops}

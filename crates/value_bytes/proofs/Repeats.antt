@@ -3,7 +3,7 @@ use Rattle.std.proofs.Common.{◌≡◌, ℕ, zero, suc, ◌-◌, ◌+◌, ◌�
 use Rattle.std.proofs.lemmas.List.{append-nil}
 use Rattle.value_model.specs.declared.key.Key.{Key}
 use Rattle.values.specs.declared.patch.Patch.{Patch}
-use Rattle.byte_spelling.specs.Reading.{◌>>=◌, key_at, keys_at, patch_at, patch_list_at}
+use Rattle.value_bytes_spec.specs.Reading.{◌>>=◌, key_at, keys_at, patch_at, patch_list_at}
 use Rattle.value_bytes.specs.declared.stop.Stop.{Stop}
 use Rattle.value_bytes.specs.declared.stop.Stop.TheVariants.{NoSpelling, Memory}
 use Rattle.value_bytes.specs.Gives.{Stops}

@@ -4,7 +4,7 @@ use Rattle.std.specs.Prelude.{◌&&◌, IsUtf8}
 use Rattle.std.specs.Str.{is_utf8}
 use Rattle.std.proofs.lemmas.Bool.{le-leb, and_from, and_right}
 use Rattle.std.proofs.lemmas.Str.{IsUtf8-from_is_utf8, is_utf8-from_IsUtf8}
-use Rattle.byte_spelling.specs.Spelling.{is_text}
+use Rattle.value_bytes_spec.specs.Spelling.{is_text}
 
 not_utf8 : (bytes : List ℕ) (b : Bool) → is_utf8 bytes ≡ b → ¬ IsUtf8 bytes → b ≡ false
 not_utf8 bytes true h bad = absurd (bad (IsUtf8-from_is_utf8 bytes h))

@@ -1,8 +1,8 @@
 -- The pair that bytes stand for.
 use Rattle.std.specs.Prelude.{◌≡◌, ℕ, List, [], Option, Some, None}
 use Rattle.values.specs.declared.patch.Pair.{Pair}
-use Rattle.byte_spelling.specs.Reading.{pair_at}
-use Rattle.byte_spelling.specs.Spelling.{pair_bytes, IsPair}
+use Rattle.value_bytes_spec.specs.Reading.{pair_at}
+use Rattle.value_bytes_spec.specs.Spelling.{pair_bytes, IsPair}
 
 -- no patches, either way
 abbrev pub no_change : Pair

@@ -2,7 +2,7 @@
 use Rattle.std.specs.Prelude.{ℕ, ◌-◌, List, ◌++◌, length, Option, Some, slice_get, option_map}
 use Rattle.value_model.specs.declared.key.Key.{Key}
 use Rattle.value_model.specs.Plain.{Plain}
-use Rattle.byte_spelling.specs.Reading.{◌>>=◌}
+use Rattle.value_bytes_spec.specs.Reading.{◌>>=◌}
 
 -- the key of the last entry, behind which the next one stands
 abbrev pub last_key : List (Key × Plain) → Option Key

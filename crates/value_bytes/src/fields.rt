@@ -1,7 +1,7 @@
 ghost use Rattle.std.specs.Prelude.{◌≡◌, Some, None, cond};
 ghost use Rattle.std.specs.Int.{w32, w64};
-ghost use Rattle.byte_spelling.specs.Reading.{number_at, text_at, int_at, text_key_at, key_at, kind_at};
-ghost use Rattle.byte_spelling.specs.Spelling.{is_text};
+ghost use Rattle.value_bytes_spec.specs.Reading.{number_at, text_at, int_at, text_key_at, key_at, kind_at};
+ghost use Rattle.value_bytes_spec.specs.Spelling.{is_text};
 ghost use Rattle.value_bytes.specs.Gives.{Gives};
 
 use crate::stop::Stop;
@@ -20,7 +20,7 @@ pub(crate) fn count_of(bytes: &[u8]) -> Result<(u32, &[u8]), Stop>
     Ok((number, rest))
 }
 
-#[tactic(auto, unfolding(byte_spelling::specs::Reading::int_at))]
+#[tactic(auto, unfolding(value_bytes_spec::specs::Reading::int_at))]
 fn int_of(bytes: &[u8]) -> Result<(Key, &[u8]), Stop>
     ensures { Gives (λ x. (x.0, x.1.now)) result (int_at bytes.now) }
 {
@@ -38,7 +38,7 @@ fn int_of(bytes: &[u8]) -> Result<(Key, &[u8]), Stop>
 }
 
 /// The text at the front: a length, and that many bytes of UTF-8.
-#[tactic(auto, unfolding(byte_spelling::specs::Reading::text_at))]
+#[tactic(auto, unfolding(value_bytes_spec::specs::Reading::text_at))]
 pub(crate) fn text_of(alloc: Global, bytes: &[u8]) -> Result<(Text, &[u8]), Stop>
     ensures { Gives (λ x. (x.0, x.1.now)) result (text_at bytes.now) }
 {
@@ -52,7 +52,7 @@ pub(crate) fn text_of(alloc: Global, bytes: &[u8]) -> Result<(Text, &[u8]), Stop
     Ok((text, rest))
 }
 
-#[tactic(auto, unfolding(byte_spelling::specs::Reading::text_key_at))]
+#[tactic(auto, unfolding(value_bytes_spec::specs::Reading::text_key_at))]
 fn text_key_of(alloc: Global, bytes: &[u8]) -> Result<(Key, &[u8]), Stop>
     ensures { Gives (λ x. (x.0, x.1.now)) result (text_key_at bytes.now) }
 {
@@ -61,7 +61,7 @@ fn text_key_of(alloc: Global, bytes: &[u8]) -> Result<(Key, &[u8]), Stop>
 }
 
 /// The primitive at the front.
-#[tactic(auto, unfolding(byte_spelling::specs::Reading::key_at))]
+#[tactic(auto, unfolding(value_bytes_spec::specs::Reading::key_at))]
 pub(crate) fn key_of(alloc: Global, bytes: &[u8]) -> Result<(Key, &[u8]), Stop>
     ensures { Gives (λ x. (x.0, x.1.now)) result (key_at bytes.now) }
 {
@@ -76,7 +76,7 @@ pub(crate) fn key_of(alloc: Global, bytes: &[u8]) -> Result<(Key, &[u8]), Stop>
 }
 
 /// The kind of container that a first byte names.
-#[tactic(auto, unfolding(byte_spelling::specs::Reading::kind_at))]
+#[tactic(auto, unfolding(value_bytes_spec::specs::Reading::kind_at))]
 pub(crate) fn kind_of(byte: u8) -> Option<Kind>
     ensures { result ≡ kind_at byte }
 {

@@ -3,8 +3,8 @@ ghost use Rattle.std.specs.Prelude.{◌≡◌, ◌≤◌, ◌++◌, ℕ, List, [
 ghost use Rattle.value_model.specs.Plain.{Plain};
 ghost use Rattle.values.specs.declared.patch.Patch.{Patch as PatchModel};
 ghost use Rattle.byteorder.specs.Endian.{big_number, big_bytes};
-ghost use Rattle.byte_spelling.specs.Numbers.{IsBytes};
-ghost use Rattle.byte_spelling.specs.Spelling.{value_bytes, patches_bytes, IsValue, IsPatches};
+ghost use Rattle.value_bytes_spec.specs.Numbers.{IsBytes};
+ghost use Rattle.value_bytes_spec.specs.Spelling.{value_bytes, patches_bytes, IsValue, IsPatches};
 
 /// No value's spelling is a proper prefix of another value's, and no patch list's of another patch list's.
 pub fn law_no_prefix()

@@ -1,6 +1,6 @@
 //! The bytes of plain values, patch lists and pairs, both ways.
 //!
-//! What the one spelling of each is stands in the crate `byte_spelling`.
+//! What the one spelling of each is stands in the crate `value_bytes_spec`.
 #![tactic(auto)]
 
 mod bytes;

@@ -1,7 +1,7 @@
 ghost use Rattle.std.specs.Prelude.{◌≡◌, map};
-ghost use Rattle.value_model.specs.declared.words.Kind.TheVariants as kind;
+ghost use Rattle.value_model.specs.declared.kind.Kind.TheVariants as kind;
 ghost use Rattle.values.specs.Seen.{of_field, of_entry, of_member};
-ghost use Rattle.byte_spelling.specs.Reading.{follows};
+ghost use Rattle.value_bytes_spec.specs.Reading.{follows};
 ghost use Rattle.value_bytes.specs.Runs.{last_key};
 
 use values::{Entry, Field, Key, Text};

@@ -1,6 +1,6 @@
 ghost use Rattle.std.specs.Prelude.{◌≡◌, ◌++◌, IfOk, OnOk};
-ghost use Rattle.byte_spelling.specs.Reading.{pair_at};
-ghost use Rattle.byte_spelling.specs.Spelling.{pair_bytes, IsPair, CanSpell};
+ghost use Rattle.value_bytes_spec.specs.Reading.{pair_at};
+ghost use Rattle.value_bytes_spec.specs.Spelling.{pair_bytes, IsPair, CanSpell};
 ghost use Rattle.value_bytes.specs.Gives.{Gives};
 
 use crate::patch_reading::patches_of;
@@ -91,7 +91,7 @@ fn put_pair(out: &mut Vec<u8>, pair: &Pair) -> Result<(), AllocError>
     put_patch_list(out, &pair.inverse)
 }
 
-#[tactic(auto, unfolding(byte_spelling::specs::Reading::pair_at))]
+#[tactic(auto, unfolding(value_bytes_spec::specs::Reading::pair_at))]
 fn pair_of(alloc: Global, bytes: &[u8]) -> Result<(Pair, &[u8]), Stop>
     ensures { Gives (λ x. (x.0, x.1.now)) result (pair_at bytes.now) }
 {

@@ -1,5 +1,5 @@
 ghost use Rattle.std.specs.Prelude.{None};
-ghost use Rattle.byte_spelling.specs.Reading.{value_at, keys_at, path_at, op_at, optional_at, patch_at, patch_list_at, patches_at};
+ghost use Rattle.value_bytes_spec.specs.Reading.{value_at, keys_at, path_at, op_at, optional_at, patch_at, patch_list_at, patches_at};
 ghost use Rattle.value_bytes.specs.Gives.{Gives};
 
 use crate::fields::{count_of, key_of};
@@ -13,7 +13,7 @@ use values::{Key, Op, Patch, Patches, Path, Val};
 const LEVELS: u8 = 32;
 
 /// The value at the front, where it is accepted.
-#[tactic(auto, unfolding(byte_spelling::specs::Reading::value_at))]
+#[tactic(auto, unfolding(value_bytes_spec::specs::Reading::value_at))]
 pub(crate) fn value_of(alloc: Global, bytes: &[u8]) -> Result<(Val, &[u8]), Stop>
     ensures { Gives (λ x. (x.0, x.1.now)) result (value_at bytes.now) }
 {
@@ -24,7 +24,7 @@ pub(crate) fn value_of(alloc: Global, bytes: &[u8]) -> Result<(Val, &[u8]), Stop
     }
 }
 
-#[tactic(auto, unfolding(byte_spelling::specs::Reading::path_at))]
+#[tactic(auto, unfolding(value_bytes_spec::specs::Reading::path_at))]
 fn path_of(alloc: Global, bytes: &[u8]) -> Result<(Path, &[u8]), Stop>
     ensures { Gives (λ x. (x.0, x.1.now)) result (path_at bytes.now) }
 {
@@ -46,7 +46,7 @@ fn keys_of(alloc: Global, count: u32, bytes: &[u8]) -> Result<(Vec<Key>, &[u8]),
     Ok((keys, rest))
 }
 
-#[tactic(auto, unfolding(byte_spelling::specs::Reading::op_at))]
+#[tactic(auto, unfolding(value_bytes_spec::specs::Reading::op_at))]
 fn op_of(bytes: &[u8]) -> Result<(Op, &[u8]), Stop>
     ensures { Gives (λ x. (x.0, x.1.now)) result (op_at bytes.now) }
 {
@@ -59,7 +59,7 @@ fn op_of(bytes: &[u8]) -> Result<(Op, &[u8]), Stop>
 }
 
 /// The value of a patch, behind the mark that says whether there is one.
-#[tactic(auto, unfolding(byte_spelling::specs::Reading::optional_at))]
+#[tactic(auto, unfolding(value_bytes_spec::specs::Reading::optional_at))]
 fn optional_of(alloc: Global, bytes: &[u8]) -> Result<(Option<Val>, &[u8]), Stop>
     ensures { Gives (λ x. (x.0, x.1.now)) result (optional_at bytes.now) }
 {
@@ -73,7 +73,7 @@ fn optional_of(alloc: Global, bytes: &[u8]) -> Result<(Option<Val>, &[u8]), Stop
     }
 }
 
-#[tactic(auto, unfolding(byte_spelling::specs::Reading::patch_at))]
+#[tactic(auto, unfolding(value_bytes_spec::specs::Reading::patch_at))]
 fn patch_of(alloc: Global, bytes: &[u8]) -> Result<(Patch, &[u8]), Stop>
     ensures { Gives (λ x. (x.0, x.1.now)) result (patch_at bytes.now) }
 {
@@ -97,7 +97,7 @@ fn patch_list_of(alloc: Global, count: u32, bytes: &[u8]) -> Result<(Vec<Patch>,
 }
 
 /// The patch list at the front.
-#[tactic(auto, unfolding(byte_spelling::specs::Reading::patches_at))]
+#[tactic(auto, unfolding(value_bytes_spec::specs::Reading::patches_at))]
 pub(crate) fn patches_of(alloc: Global, bytes: &[u8]) -> Result<(Patches, &[u8]), Stop>
     ensures { Gives (λ x. (x.0, x.1.now)) result (patches_at bytes.now) }
 {

@@ -1,7 +1,7 @@
 ghost use Rattle.std.specs.Prelude.{◌≡◌, ◌<◌, ◌^◌, ◌++◌, ◌∷◌, [], length, IsTrue, IfSome, None, OnOk};
 ghost use Rattle.std.specs.List.{flat_map, AllByRecursion};
 ghost use Rattle.value_model.specs.Limits.{value_limit};
-ghost use Rattle.byte_spelling.specs.Spelling.{key_bytes, op_byte, optional_bytes, path_bytes, patch_bytes, patches_bytes, is_word, value_bytes, IsValue, IsPath, IsPatch, IsPatches, CanSpellPatch, CanSpell};
+ghost use Rattle.value_bytes_spec.specs.Spelling.{key_bytes, op_byte, optional_bytes, path_bytes, patch_bytes, patches_bytes, is_word, value_bytes, IsValue, IsPath, IsPatch, IsPatches, CanSpellPatch, CanSpell};
 
 use crate::writing::{put_count, put_key, put_nested};
 use std::alloc::AllocError;

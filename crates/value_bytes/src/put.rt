@@ -1,6 +1,6 @@
 ghost use Rattle.std.specs.Prelude.{◌≡◌, ◌++◌, None, OnOk, OnErr};
 ghost use Rattle.value_model.specs.Limits.{value_limit};
-ghost use Rattle.byte_spelling.specs.Spelling.{value_bytes, patches_bytes, Spells, SpellsPatches, CanSpell};
+ghost use Rattle.value_bytes_spec.specs.Spelling.{value_bytes, patches_bytes, Spells, SpellsPatches, CanSpell};
 
 use crate::bytes::Bytes;
 use crate::patch_writing::{put_accepted, put_patch_list};

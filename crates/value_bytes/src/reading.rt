@@ -1,14 +1,14 @@
 ghost use Rattle.std.specs.Prelude.{None, map};
-ghost use Rattle.value_model.specs.declared.words.Kind.TheVariants as kind;
+ghost use Rattle.value_model.specs.declared.kind.Kind.TheVariants as kind;
 ghost use Rattle.values.specs.Seen.{of_field, of_entry, of_item, of_member};
-ghost use Rattle.byte_spelling.specs.Reading.{entry_at, entries_at, node_at, prim_at, value_within, nested_at};
+ghost use Rattle.value_bytes_spec.specs.Reading.{entry_at, entries_at, node_at, prim_at, value_within, nested_at};
 ghost use Rattle.value_bytes.specs.Gives.{Gives};
 
 use crate::fields::{count_of, key_of, kind_of, text_of};
 use crate::order::{is_next_entry, is_next_field, is_next_member};
 use crate::stop::Stop;
 use std::alloc::Global;
-use values::{Entry, Field, Key, Kind, Node, Val};
+use values::{Entry, Field, Key, Kind, ValNode, Val};
 
 /// The value at the front, of at most so many levels of containers.
 #[cycle(reading)]
@@ -23,7 +23,7 @@ pub(crate) fn nested_of(alloc: Global, levels: u8, bytes: &[u8]) -> Result<(Val,
 }
 
 #[cycle(reading)]
-#[tactic(auto, unfolding(byte_spelling::specs::Reading::value_within, byte_spelling::specs::Reading::prim_or_node))]
+#[tactic(auto, unfolding(value_bytes_spec::specs::Reading::value_within, value_bytes_spec::specs::Reading::prim_or_node))]
 fn within(alloc: Global, inner: u8, bytes: &[u8]) -> Result<(Val, &[u8]), Stop>
     ensures { Gives (λ x. (x.0, x.1.now)) result (value_within (nested_at inner) bytes.now) }
 {
@@ -36,7 +36,7 @@ fn within(alloc: Global, inner: u8, bytes: &[u8]) -> Result<(Val, &[u8]), Stop>
     }
 }
 
-#[tactic(auto, unfolding(byte_spelling::specs::Reading::prim_at))]
+#[tactic(auto, unfolding(value_bytes_spec::specs::Reading::prim_at))]
 fn prim_of(alloc: Global, bytes: &[u8]) -> Result<(Val, &[u8]), Stop>
     ensures { Gives (λ x. (x.0, x.1.now)) result (prim_at bytes.now) }
 {
@@ -45,7 +45,7 @@ fn prim_of(alloc: Global, bytes: &[u8]) -> Result<(Val, &[u8]), Stop>
 }
 
 #[cycle(reading)]
-#[tactic(auto, unfolding(byte_spelling::specs::Reading::node_at))]
+#[tactic(auto, unfolding(value_bytes_spec::specs::Reading::node_at))]
 fn node_of(alloc: Global, kind: Kind, inner: u8, bytes: &[u8]) -> Result<(Val, &[u8]), Stop>
     ensures { Gives (λ x. (x.0, x.1.now)) result (node_at kind (nested_at inner) bytes.now) }
 {
@@ -53,22 +53,22 @@ fn node_of(alloc: Global, kind: Kind, inner: u8, bytes: &[u8]) -> Result<(Val, &
     match kind {
         Kind::Obj => {
             let (fields, rest) = fields_of(alloc, inner, count, rest)?;
-            let node = Node::Obj(fields);
+            let node = ValNode::Obj(fields);
             Ok((Val { node }, rest))
         }
         Kind::List => {
             let (items, rest) = items_of(alloc, inner, count, rest)?;
-            let node = Node::List(items);
+            let node = ValNode::List(items);
             Ok((Val { node }, rest))
         }
         Kind::Map => {
             let (entries, rest) = entries_of(alloc, inner, count, rest)?;
-            let node = Node::Map(entries);
+            let node = ValNode::Map(entries);
             Ok((Val { node }, rest))
         }
         Kind::Set => {
             let (members, rest) = members_of(alloc, inner, count, rest)?;
-            let node = Node::Set(members);
+            let node = ValNode::Set(members);
             Ok((Val { node }, rest))
         }
     }
@@ -97,7 +97,7 @@ fn fields_of(
 }
 
 #[cycle(reading)]
-#[tactic(auto, unfolding(byte_spelling::specs::Reading::entry_at))]
+#[tactic(auto, unfolding(value_bytes_spec::specs::Reading::entry_at))]
 fn field_of(alloc: Global, inner: u8, bytes: &[u8]) -> Result<(Field, &[u8]), Stop>
     ensures { Gives (λ x. (of_field x.0, x.1.now)) result (entry_at kind.Obj (nested_at inner) bytes.now) }
 {
@@ -143,7 +143,7 @@ fn entries_of(
 }
 
 #[cycle(reading)]
-#[tactic(auto, unfolding(byte_spelling::specs::Reading::entry_at))]
+#[tactic(auto, unfolding(value_bytes_spec::specs::Reading::entry_at))]
 fn entry_of(alloc: Global, inner: u8, bytes: &[u8]) -> Result<(Entry, &[u8]), Stop>
     ensures { Gives (λ x. (of_entry x.0, x.1.now)) result (entry_at kind.Map (nested_at inner) bytes.now) }
 {

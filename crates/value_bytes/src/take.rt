@@ -1,7 +1,7 @@
 ghost use Rattle.std.specs.Prelude.{◌≡◌, ◌≤◌, ◌++◌, ℕ, List, length, take, Some, None, IfOk, IfSome};
 ghost use Rattle.value_model.specs.Plain.{Plain};
 ghost use Rattle.values.specs.declared.patch.Patch.{Patch as PatchModel};
-ghost use Rattle.byte_spelling.specs.Spelling.{value_bytes, patches_bytes, IsValue, IsPatches, Spells, SpellsPatches};
+ghost use Rattle.value_bytes_spec.specs.Spelling.{value_bytes, patches_bytes, IsValue, IsPatches, Spells, SpellsPatches};
 
 use crate::patch_reading::{patches_of, value_of};
 use crate::stop::Stop;

@@ -2,12 +2,12 @@ ghost use Rattle.std.specs.Prelude.{◌≡◌, ◌<◌, ◌^◌, ◌++◌, lengt
 ghost use Rattle.std.specs.Int.{w32, to_be_bytes};
 ghost use Rattle.value_model.specs.Plain.{weight, weights};
 ghost use Rattle.value_model.specs.Well.{well, all_well};
-ghost use Rattle.value_model.specs.declared.words.Kind.TheVariants as kind;
+ghost use Rattle.value_model.specs.declared.kind.Kind.TheVariants as kind;
 ghost use Rattle.values.specs.Seen.{of_fields, of_entries, of_items, of_members};
-ghost use Rattle.byte_spelling.specs.Spelling.{text_bytes, key_bytes, value_bytes, entries_bytes, is_text, is_word, all_words, all_words_in};
+ghost use Rattle.value_bytes_spec.specs.Spelling.{text_bytes, key_bytes, value_bytes, entries_bytes, is_text, is_word, all_words, all_words_in};
 
 use std::alloc::AllocError;
-use values::{Entry, Field, Key, Node, Text, Val};
+use values::{Entry, Field, Key, ValNode, Text, Val};
 
 /// Appends a count of four bytes.
 pub(crate) fn put_count(out: &mut Vec<u8>, count: usize) -> Result<(), AllocError>
@@ -56,23 +56,23 @@ pub(crate) fn put_nested(out: &mut Vec<u8>, v: &Val) -> Result<(), AllocError>
     ensures words { OnOk result (IsTrue (all_words v.now)) }
 {
     match &v.node {
-        Node::Prim(key) => put_key(out, key),
-        Node::Obj(fields) => {
+        ValNode::Prim(key) => put_key(out, key),
+        ValNode::Obj(fields) => {
             out.push(5)?;
             put_count(out, fields.len())?;
             put_fields(out, fields)
         }
-        Node::List(items) => {
+        ValNode::List(items) => {
             out.push(6)?;
             put_count(out, items.len())?;
             put_items(out, items)
         }
-        Node::Map(entries) => {
+        ValNode::Map(entries) => {
             out.push(7)?;
             put_count(out, entries.len())?;
             put_entries(out, entries)
         }
-        Node::Set(members) => {
+        ValNode::Set(members) => {
             out.push(8)?;
             put_count(out, members.len())?;
             put_members(out, members)

@@ -8,7 +8,7 @@ use Rattle.value_model.specs.Search.{IsPlace, absent_at}
 use Rattle.value_model.specs.Well.{all_well}
 use Rattle.value_model.specs.declared.key.Key.{Key}
 use Rattle.value_model.specs.declared.key.Key.TheVariants as key
-use Rattle.value_model.specs.declared.words.Kind.TheVariants as kind
+use Rattle.value_model.specs.declared.kind.Kind.TheVariants as kind
 use Rattle.values.specs.Seen.{of_members, of_field}
 use Rattle.values.specs.declared.val.Field.{Field}
 

@@ -1,10 +1,10 @@
 ghost use Rattle.std.specs.Prelude.{◌≡◌, IsTrue};
 ghost use Rattle.value_model.specs.Limits as spec;
 ghost use Rattle.value_model.specs.Well.{well, all_well};
-ghost use Rattle.value_model.specs.declared.words.Kind.TheVariants as kind;
+ghost use Rattle.value_model.specs.declared.kind.Kind.TheVariants as kind;
 ghost use Rattle.values.specs.Seen.{of_fields, of_entries, of_items, of_members};
 
-use values::{Entry, Field, Key, Node, Text, Val};
+use values::{Entry, Field, Key, ValNode, Text, Val};
 
 const LONGEST: usize = 1024;
 
@@ -26,14 +26,14 @@ pub(crate) fn key_faults(v: &Val) -> KeyFaults
     ensures well { IsTrue (well v.now) }
 {
     match &v.node {
-        Node::Prim(_) => KeyFaults {
+        ValNode::Prim(_) => KeyFaults {
             long: false,
             reserved: false,
         },
-        Node::Obj(fields) => in_fields(fields),
-        Node::List(items) => in_items(items),
-        Node::Map(entries) => in_entries(entries),
-        Node::Set(members) => in_members(members),
+        ValNode::Obj(fields) => in_fields(fields),
+        ValNode::List(items) => in_items(items),
+        ValNode::Map(entries) => in_entries(entries),
+        ValNode::Set(members) => in_members(members),
     }
 }
 

@@ -3,7 +3,7 @@ ghost use Rattle.value_model.specs.Limits.{value_limit, state_limit};
 ghost use Rattle.value_model.specs.Well.{well as is_well};
 
 use crate::keys::key_faults;
-use values::{Limit, Node, Val, depth, weight};
+use values::{Limit, ValNode, Val, depth, weight};
 
 /// Whether a value is accepted: the first limit that it is past is `TooDeep` (more than 32 containers nest), `TooBig` (it
 /// weighs more than 2^20), `KeyTooLong` (a key of an object or a Map, or a member of a Set, is a text of more than 1,024
@@ -35,7 +35,7 @@ pub fn check_state(v: &Val) -> Result<(), Limit>
 {
     let checked = check_value(v);
     match &v.node {
-        Node::Prim(_) => Err(Limit::NotContainer),
+        ValNode::Prim(_) => Err(Limit::NotContainer),
         _ => checked,
     }
 }

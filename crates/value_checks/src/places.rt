@@ -4,11 +4,11 @@ ghost use Rattle.value_model.specs.Order.{key_cmp};
 ghost use Rattle.value_model.specs.Places as spec;
 ghost use Rattle.value_model.specs.Search.{IsPlace};
 ghost use Rattle.value_model.specs.declared.key.Key.TheVariants as key_of;
-ghost use Rattle.value_model.specs.declared.words.Kind.TheVariants as kind;
+ghost use Rattle.value_model.specs.declared.kind.Kind.TheVariants as kind;
 ghost use Rattle.values.specs.Seen.{of_field, of_entry, of_item, of_member};
 
 use std::cmp::Ordering;
-use values::{Entry, Field, Key, Node, Path, Text, Val};
+use values::{Entry, Field, Key, ValNode, Path, Text, Val};
 
 /// What stands at a path, None exactly where nothing does. A step is a text in an object, an integer from 0 below the
 /// length in a list, any key in a Map; a Set and a primitive have no places.
@@ -30,10 +30,10 @@ pub fn child<'a>(v: &'a Val, step: &Key) -> Option<&'a Val>
     ensures { option_map (λ w. w.now) result ≡ spec.child step.now v.now }
 {
     match &v.node {
-        Node::Prim(_) | Node::Set(_) => None,
-        Node::List(items) => item_at(items, step),
-        Node::Obj(fields) => field_at(fields, step),
-        Node::Map(entries) => entry_at(entries, step),
+        ValNode::Prim(_) | ValNode::Set(_) => None,
+        ValNode::List(items) => item_at(items, step),
+        ValNode::Obj(fields) => field_at(fields, step),
+        ValNode::Map(entries) => entry_at(entries, step),
     }
 }
 

@@ -5,7 +5,7 @@ use Rattle.serde_json.specs.Events.{items_len, members_len}
 use Rattle.serde_json.specs.View.{items_of}
 use Rattle.value_model.specs.declared.key.Key.{Key}
 use Rattle.value_model.specs.Plain.{Plain}
-use Rattle.value_text.specs.Printing.{fields_data, elements_data, pairs_data, keys_data}
+use Rattle.value_json_spec.specs.Printing.{fields_data, elements_data, pairs_data, keys_data}
 use Rattle.values.specs.declared.val.Entry.{Entry}
 use Rattle.values.specs.declared.val.Field.{Field}
 use Rattle.values.specs.Seen.{of_fields, of_entries, of_items, of_members}

@@ -1,8 +1,8 @@
 -- A fault is passed on.
 use Rattle.std.proofs.Common.{ap}
 use Rattle.std.specs.Prelude.{Result}
-use Rattle.value_text.specs.Answers.{and_then, result_map}
-use Rattle.value_text.specs.declared.why.JsonWhy.{JsonWhy}
+use Rattle.value_json_spec.specs.Answers.{and_then, result_map}
+use Rattle.value_json_spec.specs.declared.why.JsonWhy.{JsonWhy}
 use Rattle.value_json.specs.Gives.{Fails}
 use Rattle.value_json.specs.declared.fault.JsonFault.{JsonFault}
 use Rattle.value_json.specs.declared.fault.JsonFault.TheVariants.{Memory, Refused}

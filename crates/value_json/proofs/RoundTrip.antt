@@ -9,9 +9,9 @@ use Rattle.serde_json.specs.Data.{Data, object, Members, no_members, member, dep
 use Rattle.serde_json.specs.Find.{of_integer}
 use Rattle.value_model.specs.declared.key.Key.{Key}
 use Rattle.value_model.specs.declared.key.Key.TheVariants as key
-use Rattle.value_model.specs.declared.words.Kind.TheVariants as kind
-use Rattle.value_model.specs.declared.words.Limit.{Limit}
-use Rattle.value_model.specs.declared.words.Limit.TheVariants as limit
+use Rattle.value_model.specs.declared.kind.Kind.TheVariants as kind
+use Rattle.value_model.specs.declared.limit.Limit.{Limit}
+use Rattle.value_model.specs.declared.limit.Limit.TheVariants as limit
 use Rattle.value_model.specs.Limits.{value_limit}
 use Rattle.value_model.specs.Order.{key_cmp, key_total, key_exact, letters}
 use Rattle.value_model.specs.Plain as plain
@@ -19,10 +19,10 @@ use Rattle.value_model.specs.Plain.{Plain, Entries, prim, node, none, entry, ent
 use Rattle.value_model.specs.Steps.{entries-list_of}
 use Rattle.value_model.specs.Well.{all_fit, fits}
 use Rattle.value_model.specs.Search.{left_true, right_true}
-use Rattle.value_text.specs.Answers.{and_then, result_map}
-use Rattle.value_text.specs.Printing.{key_data, is_tag, is_tagged, object_data, keys_data, val_data, fields_data, elements_data, pairs_data}
-use Rattle.value_text.specs.Reading.{Table, safe_of, key_from, text_from, is_primitive, are_primitive, new_key_from, set_members, with_pair, walked, elements, fields, map_pairs, by_tag, limited, limited_by, val_from}
-use Rattle.value_text.specs.declared.why.JsonWhy.{JsonWhy}
+use Rattle.value_json_spec.specs.Answers.{and_then, result_map}
+use Rattle.value_json_spec.specs.Printing.{key_data, is_tag, is_tagged, object_data, keys_data, val_data, fields_data, elements_data, pairs_data}
+use Rattle.value_json_spec.specs.Reading.{Table, safe_of, key_from, text_from, is_primitive, are_primitive, new_key_from, set_members, with_pair, walked, elements, fields, map_pairs, by_tag, limited, limited_by, val_from}
+use Rattle.value_json_spec.specs.declared.why.JsonWhy.{JsonWhy}
 use Rattle.value_json.specs.Sound.{is_sound_key, is_sound, all_sound}
 
 -- ---- keys

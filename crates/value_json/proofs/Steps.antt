@@ -18,13 +18,13 @@ use Rattle.value_model.specs.declared.key.Key.{Key}
 use Rattle.value_model.specs.declared.key.Key.TheVariants as key
 use Rattle.value_model.specs.Order.{key_cmp, key_exact}
 use Rattle.value_model.specs.Plain.{Plain, Entries, prim, node, none, entry, entries}
-use Rattle.value_model.specs.declared.words.Kind.TheVariants as kind
+use Rattle.value_model.specs.declared.kind.Kind.TheVariants as kind
 use Rattle.values.specs.Seen.{of_item, of_field}
 use Rattle.values.specs.declared.val.Field.{Field}
-use Rattle.value_text.specs.Answers.{and_then, result_map}
-use Rattle.value_text.specs.Reading.{Table, all_from, walked, elements, with_element, with_field, fields, text_from, object_in, pair_in, with_pair, key_from, new_key, new_key_from, set_members}
-use Rattle.value_text.specs.declared.why.JsonWhy.TheVariants as why
-use Rattle.value_text.specs.declared.why.JsonWhy.{JsonWhy}
+use Rattle.value_json_spec.specs.Answers.{and_then, result_map}
+use Rattle.value_json_spec.specs.Reading.{Table, all_from, walked, elements, with_element, with_field, fields, text_from, object_in, pair_in, with_pair, key_from, new_key, new_key_from, set_members}
+use Rattle.value_json_spec.specs.declared.why.JsonWhy.TheVariants as why
+use Rattle.value_json_spec.specs.declared.why.JsonWhy.{JsonWhy}
 use Rattle.value_json.specs.Gives.{Fails}
 use Rattle.value_json.specs.Ranks.{of_pairs, of_marks, of_pair, of_mark}
 use Rattle.value_json.specs.declared.fault.JsonFault.{JsonFault}

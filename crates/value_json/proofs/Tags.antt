@@ -1,6 +1,6 @@
 -- When an object reads as a tag.
 use Rattle.std.proofs.Common.{◌≡◌, length, List, [], ◌∷◌, false, refl}
-use Rattle.value_text.specs.Printing.{fields_data, is_tagged}
+use Rattle.value_json_spec.specs.Printing.{fields_data, is_tagged}
 use Rattle.values.specs.Seen.{of_fields}
 use Rattle.values.specs.declared.val.Field.{Field}
 

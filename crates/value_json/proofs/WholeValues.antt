@@ -8,13 +8,13 @@ use Rattle.serde_json.specs.Data.{Num, unsigned, negative, Data, object, Members
 use Rattle.serde_json.specs.Find.{of_integer}
 use Rattle.value_model.specs.declared.key.Key.{Key}
 use Rattle.value_model.specs.declared.key.Key.TheVariants as key
-use Rattle.value_model.specs.declared.words.Kind.TheVariants as kind
+use Rattle.value_model.specs.declared.kind.Kind.TheVariants as kind
 use Rattle.value_model.specs.Order.{key_cmp, letters}
 use Rattle.value_model.specs.Plain.{Plain, Entries, prim, node, none, entry, list_of}
 use Rattle.value_model.specs.Well.{all_fit}
 use Rattle.value_model.specs.Search.{left_true, right_true}
-use Rattle.value_text.specs.Printing.{key_data, is_tagged, object_data, keys_data, val_data, fields_data, elements_data, pairs_data}
-use Rattle.value_text.specs.Reading.{safe_of}
+use Rattle.value_json_spec.specs.Printing.{key_data, is_tagged, object_data, keys_data, val_data, fields_data, elements_data, pairs_data}
+use Rattle.value_json_spec.specs.Reading.{safe_of}
 use Rattle.value_json.specs.Sound.{is_sound_key, is_sound, all_sound}
 use Rattle.value_json.specs.Whole.{is_small, is_whole, items_whole, members_whole, all_above, is_ascending}
 

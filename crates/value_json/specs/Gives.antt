@@ -1,8 +1,8 @@
 -- What a reading answers beside want of memory.
 use Rattle.std.specs.Prelude.{◌≡◌, Option, Some, None, Result, Ok, Err}
 use Rattle.serde_json.specs.Data.{Data}
-use Rattle.value_text.specs.declared.why.JsonWhy.{JsonWhy}
-use Rattle.value_text.specs.declared.why.JsonWhy.TheVariants as why
+use Rattle.value_json_spec.specs.declared.why.JsonWhy.{JsonWhy}
+use Rattle.value_json_spec.specs.declared.why.JsonWhy.TheVariants as why
 use Rattle.value_json.specs.declared.fault.JsonFault.{JsonFault}
 use Rattle.value_json.specs.declared.fault.JsonFault.TheVariants.{Memory, Refused}
 

@@ -6,7 +6,7 @@ use Rattle.value_model.specs.declared.key.Key.TheVariants as key
 use Rattle.value_model.specs.Places.{ascends_at}
 use Rattle.value_model.specs.Plain.{Plain, Entries, prim, node, none, entry, list_of}
 use Rattle.value_model.specs.Well.{all_fit}
-use Rattle.value_text.specs.Reading.{safe_of}
+use Rattle.value_json_spec.specs.Reading.{safe_of}
 
 abbrev pub is_sound_key : Key → Bool
 is_sound_key (key.Int z) = is_some (safe_of (of_integer z))

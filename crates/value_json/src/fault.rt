@@ -2,7 +2,7 @@ ghost use Rattle.std.specs.Prelude.{◌≡◌};
 
 use std::alloc::{AllocError, AllocFailed};
 use thiserror::Error;
-use value_text::JsonWhy;
+use value_json_spec::JsonWhy;
 
 /// Why a text wasn't read.
 #[derive(Debug, Drop, Error)]

@@ -1,7 +1,7 @@
 //! The JSON text (RFC 8259) of values, paths and patches, read and printed.
 //!
 //! A Map is `{"$map":[[k,v],..]}`, a Set `{"$set":[k,..]}`, and an object whose only member would read as one of these is
-//! printed as `{"$obj":{..}}`. The definitions stand in `value_text`.
+//! printed as `{"$obj":{..}}`. The definitions stand in `value_json_spec`.
 #![tactic(auto)]
 
 mod fault;
@@ -19,4 +19,4 @@ pub use reading::{
 pub use sending::Printed;
 pub use sending_patches::PrintedPatches;
 pub use texts::{Text8, read_patches, read_path, read_value, write_patches, write_value};
-pub use value_text::JsonWhy;
+pub use value_json_spec::JsonWhy;

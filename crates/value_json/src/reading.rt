@@ -3,17 +3,17 @@ ghost use Rattle.std.specs.Prelude.{◌≡◌, option_map, unwrap_or, false};
 ghost use Rattle.serde_json.specs.Find.{as_array};
 ghost use Rattle.serde_json.specs.View.{view, items_view};
 ghost use Rattle.value_json.specs.Gives.{Gives, GivesBy, GivesData};
-ghost use Rattle.value_model.specs.declared.words.Limit.TheVariants as limit;
-ghost use Rattle.value_text.specs.Patches as spec;
-ghost use Rattle.value_text.specs.Reading.{json_of, val_from, limited as limited_of, all_from, key_from};
-ghost use Rattle.value_text.specs.Patches.{path_from, patches_from};
+ghost use Rattle.value_model.specs.declared.limit.Limit.TheVariants as limit;
+ghost use Rattle.value_json_spec.specs.Patches as spec;
+ghost use Rattle.value_json_spec.specs.Reading.{json_of, val_from, limited as limited_of, all_from, key_from};
+ghost use Rattle.value_json_spec.specs.Patches.{path_from, patches_from};
 
 use crate::fault::JsonFault;
 use crate::walk::{are_primitive, key_in, value_in};
 use serde_json::Value;
 use std::alloc::Global;
 use value_checks::check_value;
-use value_text::JsonWhy;
+use value_json_spec::JsonWhy;
 use values::{Key, Limit, Op, Patch, Patches, Path, Val};
 
 /// The JSON data that the bytes are: `NotJson` exactly where they are no JSON text (RFC 8259) of at most 127 levels, as
@@ -35,7 +35,7 @@ pub fn json_of_bytes(alloc: Global, bytes: &[u8]) -> Result<Value, JsonFault>
 
 /// The value that the data is, or the first fault of the walk (`NotSafeInteger`, `TextTooLong`, `BadTag`,
 /// `DuplicateKey`), or else the first limit that the value is past, or memory.
-#[tactic(auto, using(crate::proofs::Passed::passed_then), unfolding(value_text::specs::Reading::val_from))]
+#[tactic(auto, using(crate::proofs::Passed::passed_then), unfolding(value_json_spec::specs::Reading::val_from))]
 pub fn val_of_json(alloc: Global, value: &Value) -> Result<Val, JsonFault>
     ensures { Gives result (val_from (view value.now)) }
 {
@@ -55,7 +55,7 @@ fn limited(v: Val) -> Result<Val, JsonFault>
 
 /// The path that the data is: `NotPath` exactly where it is no array of primitives, then `NotSafeInteger` or `TextTooLong`
 /// at its first such step, or memory.
-#[tactic(auto, unfolding(value_text::specs::Patches::path_from))]
+#[tactic(auto, unfolding(value_json_spec::specs::Patches::path_from))]
 pub fn path_of_json(alloc: Global, value: &Value) -> Result<Path, JsonFault>
     ensures { Gives result (path_from (view value.now)) }
 {
@@ -105,7 +105,7 @@ fn keys_in(alloc: Global, items: &[Value]) -> Result<Vec<Key>, JsonFault>
 /// The patches that the data is: `NotPatches` exactly where it isn't an array of objects with the members `op` (`add`,
 /// `replace` or `remove`), `path` (an array of primitives) and maybe `value`, and no other; then the first fault of the walk
 /// over all of them, a patch's path before its value; then the first limit that a value is past, or memory.
-#[tactic(auto, unfolding(value_text::specs::Patches::patches_from))]
+#[tactic(auto, unfolding(value_json_spec::specs::Patches::patches_from))]
 pub fn patches_of_json(alloc: Global, value: &Value) -> Result<Patches, JsonFault>
     ensures { Gives result (patches_from (view value.now)) }
 {

@@ -9,12 +9,12 @@ ghost use Rattle.serde_json.specs.Find.{of_integer};
 ghost use Rattle.value_json.specs.Sent.{Opens};
 ghost use Rattle.value_json.specs.Sound.{is_sound, is_sound_key, all_sound};
 ghost use Rattle.value_model.specs.Order.{key_cmp};
-ghost use Rattle.value_text.specs.Printing as spec;
-ghost use Rattle.value_text.specs.Printing.{key_data, val_data};
+ghost use Rattle.value_json_spec.specs.Printing as spec;
+ghost use Rattle.value_json_spec.specs.Printing.{key_data, val_data};
 ghost use Rattle.values.specs.Seen.{of_field, of_fields, of_entries, of_items, of_members};
 
 use serde::{Described, Serialize, Serializer};
-use values::{Entry, Field, Key, Node, Val};
+use values::{Entry, Field, Key, ValNode, Val};
 
 /// A value in its JSON form, to be printed.
 #[derive(Drop)]
@@ -59,15 +59,15 @@ fn send<S: Serializer>(v: &Val, out: &mut S) -> Result<(), S::Error>
     ensures sound { OnOk result (IsTrue (is_sound v.now)) }
 {
     match &v.node {
-        Node::Prim(key) => send_key(key, out),
-        Node::Obj(fields) => send_object(fields, out),
-        Node::List(items) => send_items(items, out),
-        Node::Map(entries) => {
+        ValNode::Prim(key) => send_key(key, out),
+        ValNode::Obj(fields) => send_object(fields, out),
+        ValNode::List(items) => send_items(items, out),
+        ValNode::Map(entries) => {
             open(out, "$map")?;
             send_pairs(entries, out)?;
             out.end_map()
         }
-        Node::Set(members) => {
+        ValNode::Set(members) => {
             open(out, "$set")?;
             send_members(members, out)?;
             out.end_map()

@@ -4,8 +4,8 @@ ghost use Rattle.serde_json.specs.Data.{array};
 ghost use Rattle.serde_json.specs.Events.{SendsValue};
 ghost use Rattle.serde_json.specs.View.{items_of};
 ghost use Rattle.value_json.specs.Sent.{SendsPlace};
-ghost use Rattle.value_text.specs.Patches.{op_text as op_text_of, path_data, patch_data, patches_data};
-ghost use Rattle.value_text.specs.Printing.{key_data};
+ghost use Rattle.value_json_spec.specs.Patches.{op_text as op_text_of, path_data, patch_data, patches_data};
+ghost use Rattle.value_json_spec.specs.Printing.{key_data};
 
 use crate::sending::{Printed, send_key};
 use serde::{Described, Serialize, Serializer};
@@ -22,7 +22,7 @@ impl Described for PrintedPatches<'_> {
 }
 
 impl Serialize for PrintedPatches<'_> {
-    #[tactic(auto, unfolding(value_text::specs::Patches::patches_data))]
+    #[tactic(auto, unfolding(value_json_spec::specs::Patches::patches_data))]
     fn serialize<S: Serializer>(&self, out: &mut S) -> Result<(), S::Error> {
         send_list(self.patches.as_slice(), out)
     }
@@ -38,7 +38,7 @@ fn send_list<S: Serializer>(patches: &[Patch], out: &mut S) -> Result<(), S::Err
     out.end_seq()
 }
 
-#[tactic(auto, unfolding(value_text::specs::Patches::patch_data))]
+#[tactic(auto, unfolding(value_json_spec::specs::Patches::patch_data))]
 fn send_patch<S: Serializer>(patch: &Patch, out: &mut S) -> Result<(), S::Error>
     ensures { OnOk result (SendsValue (patch_data patch.now) (S.written out.old) (S.written out.new)) }
 {
@@ -67,7 +67,7 @@ fn send_place<S: Serializer>(patch: &Patch, members: usize, out: &mut S) -> Resu
     send_steps(patch.path.as_slice(), out)
 }
 
-#[tactic(auto, unfolding(value_text::specs::Patches::path_data))]
+#[tactic(auto, unfolding(value_json_spec::specs::Patches::path_data))]
 fn send_steps<S: Serializer>(steps: &[Key], out: &mut S) -> Result<(), S::Error>
     ensures { OnOk result (SendsValue (path_data steps.now) (S.written out.old) (S.written out.new)) }
 {

@@ -2,9 +2,9 @@
 ghost use Rattle.std.specs.Prelude.{◌≡◌, IfOk, Ok, None};
 ghost use Rattle.value_json.specs.Gives.{Gives};
 ghost use Rattle.value_model.specs.Limits.{value_limit};
-ghost use Rattle.value_text.specs.Patches.{patches_of, path_of, patches_text};
-ghost use Rattle.value_text.specs.Printing.{value_text};
-ghost use Rattle.value_text.specs.Reading.{value_of};
+ghost use Rattle.value_json_spec.specs.Patches.{patches_of, path_of, patches_text};
+ghost use Rattle.value_json_spec.specs.Printing.{value_json_spec};
+ghost use Rattle.value_json_spec.specs.Reading.{value_of};
 
 use crate::fault::JsonFault;
 use crate::reading::{json_of_bytes, patches_of_json, path_of_json, val_of_json};
@@ -66,9 +66,9 @@ pub fn read_patches(alloc: Global, bytes: &[u8]) -> Result<Patches, JsonFault>
 
 /// The compact JSON text of a value, its members, pairs and Set members in ascending order. Where `check_value` accepts
 /// the value, the text is read back as the same value.
-#[tactic(auto, using(value_text::proofs::NoFloat::val_no_float))]
+#[tactic(auto, using(value_json_spec::proofs::NoFloat::val_no_float))]
 pub fn write_value(alloc: Global, v: &Val) -> Result<Text8, AllocError>
-    ensures text { IfOk result (λ t. t ≡ value_text v.now) }
+    ensures text { IfOk result (λ t. t ≡ value_json_spec v.now) }
     ensures reads_back { IfOk result (λ t. value_limit v.now ≡ None → value_of t ≡ Ok v.now) }
 {
     match serde_json::to_string(alloc, &Printed { value: v }) {
@@ -78,7 +78,7 @@ pub fn write_value(alloc: Global, v: &Val) -> Result<Text8, AllocError>
 }
 
 /// The compact JSON text of patches, each in the form of Immer 10.
-#[tactic(auto, using(value_text::proofs::NoFloat::patches_no_float))]
+#[tactic(auto, using(value_json_spec::proofs::NoFloat::patches_no_float))]
 pub fn write_patches(alloc: Global, patches: &Patches) -> Result<Text8, AllocError>
     ensures { IfOk result (λ t. t ≡ patches_text patches.now) }
 {

@@ -7,9 +7,9 @@ ghost use Rattle.value_json.specs.Gives.{Gives, GivesBy};
 ghost use Rattle.value_json.specs.Ranks.{of_pairs, of_marks};
 ghost use Rattle.value_model.specs.Order.{key_cmp};
 ghost use Rattle.value_model.specs.Plain.{node};
-ghost use Rattle.value_model.specs.declared.words.Kind.TheVariants as kind;
-ghost use Rattle.value_text.specs.Answers.{result_map};
-ghost use Rattle.value_text.specs.Reading as spec;
+ghost use Rattle.value_model.specs.declared.kind.Kind.TheVariants as kind;
+ghost use Rattle.value_json_spec.specs.Answers.{result_map};
+ghost use Rattle.value_json_spec.specs.Reading as spec;
 ghost use Rattle.values.specs.Seen.{of_field, of_entry, of_member, of_fields, of_items};
 
 use crate::fault::JsonFault;
@@ -17,8 +17,8 @@ use crate::ranked::Ranked;
 use serde_json::{Map, Number, Value};
 use std::alloc::{AllocError, Global};
 use std::collections::BTreeMap;
-use value_text::JsonWhy;
-use values::{Entry, Field, Key, Node, Safe, Text, TextFault, Val};
+use value_json_spec::JsonWhy;
+use values::{Entry, Field, Key, ValNode, Safe, Text, TextFault, Val};
 
 fn safe_in(number: &Number) -> Option<Safe>
     ensures { result ≡ spec.safe_of (number_view number.now) }
@@ -106,7 +106,7 @@ fn set_of(alloc: Global, items: &[Value]) -> Result<Val, JsonFault>
     }
     let found = marks_in(alloc, items)?;
     Ok(Val {
-        node: Node::Set(members_of(alloc, found)?),
+        node: ValNode::Set(members_of(alloc, found)?),
     })
 }
 
@@ -150,7 +150,7 @@ pub(crate) fn value_in(alloc: Global, value: &Value) -> Result<Val, JsonFault>
         Value::Number(_) => Ok(Val::primitive(key_in(alloc, value)?)),
         Value::String(_) => Ok(Val::primitive(key_in(alloc, value)?)),
         Value::Array(items) => Ok(Val {
-            node: Node::List(elements_in(alloc, items)?),
+            node: ValNode::List(elements_in(alloc, items)?),
         }),
         Value::Object(members) => object_in(alloc, members),
     }
@@ -185,7 +185,7 @@ fn plain_object(alloc: Global, members: &Map<String, Value>) -> Result<Val, Json
     ensures { Gives result (result_map (node kind.Obj) (spec.fields (members_view members.now.entries))) }
 {
     Ok(Val {
-        node: Node::Obj(fields_in(alloc, members)?),
+        node: ValNode::Obj(fields_in(alloc, members)?),
     })
 }
 
@@ -213,7 +213,7 @@ fn one_field(alloc: Global, name: &str, value: &Value) -> Result<Val, JsonFault>
     let mut fields = Vec::with_capacity(alloc, 1)?;
     fields.push(Field { key, value })?;
     Ok(Val {
-        node: Node::Obj(fields),
+        node: ValNode::Obj(fields),
     })
 }
 
@@ -253,7 +253,7 @@ fn map_in(alloc: Global, value: &Value) -> Result<Val, JsonFault>
         Value::Array(items) => {
             let found = pairs_in(alloc, items)?;
             Ok(Val {
-                node: Node::Map(entries_of(alloc, found)?),
+                node: ValNode::Map(entries_of(alloc, found)?),
             })
         }
         Value::Null | Value::Bool(_) | Value::Number(_) | Value::String(_) | Value::Object(_) => {

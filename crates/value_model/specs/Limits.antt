@@ -3,10 +3,10 @@ use Rattle.std.specs.Prelude.{ℕ, ◌||◌, ◌^◌, nat_lt, List, length, Bool
 use Rattle.std.specs.Str.{bytes_eq}
 use Rattle.value_model.specs.declared.key.Key.{Key}
 use Rattle.value_model.specs.declared.key.Key.TheVariants.{Text}
-use Rattle.value_model.specs.declared.words.Kind.{Kind}
-use Rattle.value_model.specs.declared.words.Kind.TheVariants as kind
-use Rattle.value_model.specs.declared.words.Limit.{Limit}
-use Rattle.value_model.specs.declared.words.Limit.TheVariants as limit
+use Rattle.value_model.specs.declared.kind.Kind.{Kind}
+use Rattle.value_model.specs.declared.kind.Kind.TheVariants as kind
+use Rattle.value_model.specs.declared.limit.Limit.{Limit}
+use Rattle.value_model.specs.declared.limit.Limit.TheVariants as limit
 use Rattle.value_model.specs.Plain.{Plain, Entries, prim, node, none, entry, weight, depth}
 
 -- a text of more than 1,024 bytes

@@ -4,8 +4,8 @@ use Rattle.std.specs.FinMap.Entries.{find, put, where_key, is_sorted}
 use Rattle.std.specs.Ordering.{eq_by_cmp}
 use Rattle.value_model.specs.declared.key.Key.{Key}
 use Rattle.value_model.specs.declared.key.Key.TheVariants.{Int}
-use Rattle.value_model.specs.declared.words.Kind.{Kind}
-use Rattle.value_model.specs.declared.words.Kind.TheVariants as kind
+use Rattle.value_model.specs.declared.kind.Kind.{Kind}
+use Rattle.value_model.specs.declared.kind.Kind.TheVariants as kind
 use Rattle.value_model.specs.Order.{key_cmp}
 use Rattle.value_model.specs.Plain.{Plain, prim, node, entries, list_of}
 

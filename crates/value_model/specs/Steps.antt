@@ -3,7 +3,7 @@ use Rattle.std.specs.Prelude.{◌≡◌, ℕ, ◌+◌, ◌<◌, ◌≤◌, max, 
 use Rattle.std.proofs.Common.{zero, suc, ap, arith, take, get_or}
 use Rattle.std.proofs.lemmas.List.{map_more}
 use Rattle.value_model.specs.declared.key.Key.{Key}
-use Rattle.value_model.specs.declared.words.Kind.{Kind}
+use Rattle.value_model.specs.declared.kind.Kind.{Kind}
 use Rattle.value_model.specs.Plain.{Plain, Entries, prim, none, entry, entries, list_of, place_weight, weight, weights, values, values_in, depth, deepest}
 
 pub list_of_entries : (es : List (Key × Plain)) → list_of (entries es) ≡ es

@@ -5,13 +5,20 @@
 #![tactic(auto)]
 
 mod key;
+mod kind;
 mod laws;
+mod limit;
+mod op;
+mod patch_why;
 mod safe;
 mod text;
-mod words;
 
 pub use key::Key;
+pub use kind::Kind;
 pub use laws::{law_keys_are_told_apart, law_same_entries, law_set_key, law_unset_key};
+pub use limit::Limit;
+pub use op::Op;
+pub use patch_why::PatchWhy;
 pub use safe::Safe;
 pub use text::{Text, TextFault};
-pub use words::{Kind, Limit, Op, PatchWhy};
+

@@ -3,14 +3,14 @@ use Rattle.std.specs.Prelude.{◌+◌, ◌≤◌, List, [], ◌∷◌, map}
 use Rattle.std.proofs.Common.{arith}
 use denote.Param.Weighed.{most}
 use Rattle.value_model.specs.Plain.{Plain, node, entries, values}
-use Rattle.value_model.specs.declared.words.Kind.{Kind}
-use Rattle.value_model.specs.declared.words.Kind.TheVariants as kind
+use Rattle.value_model.specs.declared.kind.Kind.{Kind}
+use Rattle.value_model.specs.declared.kind.Kind.TheVariants as kind
 use Rattle.values.specs.Seen.{plain_of, of_field, of_item, of_entry}
 use Rattle.values.specs.declared.val.Entry.{Entry}
 use Rattle.values.specs.declared.val.Field.{Field}
-use Rattle.values.specs.declared.val.Node.{Node}
-use Rattle.values.specs.declared.val.Node.TheVariants.{Prim, Obj, List as ListOf, Map, Set}
-use Rattle.values.specs.declared.val.Val.TheDeep.{deep-Node, deep-Field, deep-Entry}
+use Rattle.values.specs.declared.val.ValNode.{ValNode}
+use Rattle.values.specs.declared.val.ValNode.TheVariants.{Prim, Obj, List as ListOf, Map, Set}
+use Rattle.values.specs.declared.val.Val.TheDeep.{deep-ValNode, deep-Field, deep-Entry}
 
 most_fields : (kind : Kind) (fs : List Field) → most (λ f. deep-Field f) fs ≤ values (node kind (entries (map of_field fs)))
 most_fields kind [] = omega arith
@@ -29,7 +29,7 @@ most_items kind [] = omega arith
 most_items kind (v ∷ vs) = omega (arith, most_items kind vs)
 
 -- what is inside a node is no larger than its count of values
-pub falls : (n : Node) → deep-Node n ≤ values (plain_of n)
+pub falls : (n : ValNode) → deep-ValNode n ≤ values (plain_of n)
 falls (Prim k) = omega arith
 falls (Obj fields) = omega (arith, most_fields kind.Obj fields.items)
 falls (ListOf items) = omega (arith, most_items kind.List items.items)

@@ -3,13 +3,13 @@ use Rattle.std.specs.Prelude.{List, map, IsTrue}
 use Rattle.std.specs.FinMap.Entries.{is_sorted}
 use Rattle.value_model.specs.declared.key.Key.{Key}
 use Rattle.value_model.specs.declared.key.Key.TheVariants.{Null, Text}
-use Rattle.value_model.specs.declared.words.Kind.TheVariants as kind
+use Rattle.value_model.specs.declared.kind.Kind.TheVariants as kind
 use Rattle.value_model.specs.Order.{key_cmp}
 use Rattle.value_model.specs.Plain.{Plain, Entries, prim, node, entries}
 use Rattle.values.specs.declared.val.Entry.{Entry}
 use Rattle.values.specs.declared.val.Field.{Field}
-use Rattle.values.specs.declared.val.Node.{Node}
-use Rattle.values.specs.declared.val.Node.TheVariants.{Prim, Obj, List as ListOf, Map, Set}
+use Rattle.values.specs.declared.val.ValNode.{ValNode}
+use Rattle.values.specs.declared.val.ValNode.TheVariants.{Prim, Obj, List as ListOf, Map, Set}
 
 -- an entry of an object, its name as a key
 abbrev pub of_field : Field → Key × Plain
@@ -44,7 +44,7 @@ abbrev pub of_members : List Key → Entries
 of_members ks = entries (map of_member ks)
 
 -- the plain value that a node is
-abbrev pub plain_of : Node → Plain
+abbrev pub plain_of : ValNode → Plain
 plain_of (Prim k) = prim k
 plain_of (Obj fields) = node kind.Obj (of_fields fields.items)
 plain_of (ListOf items) = node kind.List (of_items items.items)
@@ -52,7 +52,7 @@ plain_of (Map es) = node kind.Map (of_entries es.items)
 plain_of (Set keys) = node kind.Set (of_members keys.items)
 
 -- the keys of this level ascend strictly, where there are keys
-abbrev pub Ascends : Node → Type 0
+abbrev pub Ascends : ValNode → Type 0
 Ascends (Prim k) = Unit {0}
 Ascends (Obj fields) = IsTrue (is_sorted key_cmp (map of_field fields.items))
 Ascends (ListOf items) = Unit {0}

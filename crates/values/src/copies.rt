@@ -1,7 +1,7 @@
 ghost use Rattle.std.specs.Prelude.{◌≡◌, IfOk};
 ghost use Rattle.values.specs.Seen.{of_fields, of_entries, of_items};
 
-use crate::val::{Entry, Field, Node, Val};
+use crate::val::{Entry, Field, ValNode, Val};
 use std::alloc::{AllocError, Global};
 use value_model::Key;
 
@@ -19,20 +19,20 @@ fn copy(alloc: Global, v: &Val) -> Result<Val, AllocError>
     ensures { IfOk result (λ w. w ≡ v.now) }
 {
     match &v.node {
-        Node::Prim(k) => Ok(Val {
-            node: Node::Prim(k.copy(alloc)?),
+        ValNode::Prim(k) => Ok(Val {
+            node: ValNode::Prim(k.copy(alloc)?),
         }),
-        Node::Obj(fields) => Ok(Val {
-            node: Node::Obj(copy_fields(alloc, fields)?),
+        ValNode::Obj(fields) => Ok(Val {
+            node: ValNode::Obj(copy_fields(alloc, fields)?),
         }),
-        Node::List(items) => Ok(Val {
-            node: Node::List(copy_items(alloc, items)?),
+        ValNode::List(items) => Ok(Val {
+            node: ValNode::List(copy_items(alloc, items)?),
         }),
-        Node::Map(entries) => Ok(Val {
-            node: Node::Map(copy_entries(alloc, entries)?),
+        ValNode::Map(entries) => Ok(Val {
+            node: ValNode::Map(copy_entries(alloc, entries)?),
         }),
-        Node::Set(members) => Ok(Val {
-            node: Node::Set(copy_members(alloc, members)?),
+        ValNode::Set(members) => Ok(Val {
+            node: ValNode::Set(copy_members(alloc, members)?),
         }),
     }
 }

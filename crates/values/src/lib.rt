@@ -8,5 +8,5 @@ mod val;
 
 pub use measures::{depth, key_weight, values, weight};
 pub use patch::{Pair, Patch, Patches, Path};
-pub use val::{Entry, Field, Node, Val};
+pub use val::{Entry, Field, Val, ValNode};
 pub use value_model::{Key, Kind, Limit, Op, PatchWhy, Safe, Text, TextFault};

@@ -1,9 +1,9 @@
 ghost use Rattle.std.specs.Prelude.{◌≡◌, ◌^◌, ◌+◌, min};
 ghost use Rattle.value_model.specs.Plain as spec;
-ghost use Rattle.value_model.specs.declared.words.Kind.TheVariants as kind;
+ghost use Rattle.value_model.specs.declared.kind.Kind.TheVariants as kind;
 ghost use Rattle.values.specs.Seen.{of_fields, of_entries, of_items, of_members};
 
-use crate::val::{Entry, Field, Node, Val};
+use crate::val::{Entry, Field, ValNode, Val};
 use value_model::Key;
 
 const CAP: u64 = 1 << 63;
@@ -14,11 +14,11 @@ pub fn weight(v: &Val) -> u64
     ensures { result ≡ min (spec.weight v.now) (2 ^ 63) }
 {
     match &v.node {
-        Node::Prim(k) => key_weight(k),
-        Node::Obj(fields) => capped(1, fields_weight(fields)),
-        Node::List(items) => capped(1, items_weight(items)),
-        Node::Map(entries) => capped(1, entries_weight(entries)),
-        Node::Set(members) => capped(1, members_weight(members)),
+        ValNode::Prim(k) => key_weight(k),
+        ValNode::Obj(fields) => capped(1, fields_weight(fields)),
+        ValNode::List(items) => capped(1, items_weight(items)),
+        ValNode::Map(entries) => capped(1, entries_weight(entries)),
+        ValNode::Set(members) => capped(1, members_weight(members)),
     }
 }
 
@@ -89,11 +89,11 @@ pub fn values(v: &Val) -> u64
     ensures { result ≡ min (spec.values v.now) (2 ^ 63) }
 {
     match &v.node {
-        Node::Prim(_) => 1,
-        Node::Obj(fields) => capped(1, values_of_fields(fields)),
-        Node::List(items) => capped(1, values_of_items(items)),
-        Node::Map(entries) => capped(1, values_of_entries(entries)),
-        Node::Set(members) => capped(1, members.len() as u64),
+        ValNode::Prim(_) => 1,
+        ValNode::Obj(fields) => capped(1, values_of_fields(fields)),
+        ValNode::List(items) => capped(1, values_of_items(items)),
+        ValNode::Map(entries) => capped(1, values_of_entries(entries)),
+        ValNode::Set(members) => capped(1, members.len() as u64),
     }
 }
 
@@ -136,11 +136,11 @@ pub fn depth(v: &Val) -> u64
     ensures { result ≡ min (spec.depth v.now) (2 ^ 63) }
 {
     match &v.node {
-        Node::Prim(_) => 0,
-        Node::Obj(fields) => capped(1, deepest_field(fields)),
-        Node::List(items) => capped(1, deepest_item(items)),
-        Node::Map(entries) => capped(1, deepest_entry(entries)),
-        Node::Set(members) => capped(1, none_of(members)),
+        ValNode::Prim(_) => 0,
+        ValNode::Obj(fields) => capped(1, deepest_field(fields)),
+        ValNode::List(items) => capped(1, deepest_item(items)),
+        ValNode::Map(entries) => capped(1, deepest_entry(entries)),
+        ValNode::Set(members) => capped(1, none_of(members)),
     }
 }
 

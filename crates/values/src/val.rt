@@ -1,6 +1,6 @@
 ghost use Rattle.std.specs.Prelude.{◌≡◌, [], map};
 ghost use Rattle.value_model.specs.Plain.{prim, node, none};
-ghost use Rattle.value_model.specs.declared.words.Kind.TheVariants as kind;
+ghost use Rattle.value_model.specs.declared.kind.Kind.TheVariants as kind;
 
 use std::alloc::Global;
 use std::marker::Model;
@@ -13,13 +13,13 @@ use value_model::{Key, Text};
 #[derive(Drop)]
 pub struct Val {
     /// The primitive, or the container with all that is in it.
-    pub node: Node,
+    pub node: ValNode,
 }
 
 /// What a value is: a primitive, or a container.
 #[cycle(val)]
 #[derive(Drop)]
-pub enum Node {
+pub enum ValNode {
     /// A primitive: null, a boolean, an integer or a text.
     Prim(Key),
     /// An object, by its entries.
@@ -80,7 +80,7 @@ impl Val {
         ensures { result ≡ prim key }
     {
         Val {
-            node: Node::Prim(key),
+            node: ValNode::Prim(key),
         }
     }
 
@@ -89,7 +89,7 @@ impl Val {
         ensures { result ≡ node kind.Obj none }
     {
         Val {
-            node: Node::Obj(Vec::new(alloc)),
+            node: ValNode::Obj(Vec::new(alloc)),
         }
     }
 }

@@ -3,8 +3,8 @@ use Rattle.run_heap.specs.declared.value.Rv.{Rv}
 use Rattle.run_heap.specs.Operations.{table_of}
 use Rattle.run_heap.specs.Sound.{AllStored}
 use Rattle.draft_core.specs.Seen.{heap}
-use Rattle.list_rows.specs.Edits.{one_more, stored_more, value_element}
-use Rattle.list_rows.specs.Guards.{elements_of}
+use Rattle.array_ops_spec.specs.Edits.{one_more, stored_more, value_element}
+use Rattle.array_ops_spec.specs.Guards.{elements_of}
 use Rattle.array_ops.proofs.elements.elements.Goals as goal
 
 pub loop-i-preserved : goal.loop-i-preserved

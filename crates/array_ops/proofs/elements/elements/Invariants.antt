@@ -2,7 +2,7 @@ use Rattle.std.proofs.Common.{◌≡◌, ◌++◌}
 use Rattle.std.specs.Prelude.{slice_range}
 use Rattle.run_heap.specs.Sound.{AllStored}
 use Rattle.draft_core.specs.Seen.{heap}
-use Rattle.list_rows.specs.Guards.{elements_of}
+use Rattle.array_ops_spec.specs.Guards.{elements_of}
 use Rattle.array_ops.proofs.elements.elements.Given as goal
 
 abbrev pub invariant-loop-i : goal.invariant-loop-i

@@ -3,9 +3,9 @@ use Rattle.run_heap.specs.Operations.{table_of}
 use Rattle.std.proofs.lemmas.Int.{to_z-of_z}
 use Rattle.std.specs.Int.{w64}
 use Rattle.draft_core.specs.Seen.{heap}
-use Rattle.list_rows.specs.Calls.{cut_to}
-use Rattle.list_rows.specs.Edits.{long_elements, cut_ok, row_spliced}
-use Rattle.list_rows.specs.Guards.{elements_of}
+use Rattle.array_ops_spec.specs.Calls.{cut_to}
+use Rattle.array_ops_spec.specs.Edits.{long_elements, cut_ok, row_spliced}
+use Rattle.array_ops_spec.specs.Guards.{elements_of}
 use Rattle.array_ops.proofs.ranges.set_length.Goals as goal
 
 pub returns-clause-done : goal.returns-clause-done

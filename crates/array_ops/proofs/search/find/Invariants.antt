@@ -2,7 +2,7 @@ use Rattle.std.proofs.Common.{◌≡◌, ◌+◌, drop}
 use Rattle.std.specs.List.{position_or_len}
 use Rattle.run_heap.specs.Values.{same}
 use Rattle.draft_core.specs.Seen.{heap}
-use Rattle.list_rows.specs.Guards.{elements_of}
+use Rattle.array_ops_spec.specs.Guards.{elements_of}
 use Rattle.array_ops.proofs.search.find.Given as goal
 
 abbrev pub invariant-loop-i : goal.invariant-loop-i

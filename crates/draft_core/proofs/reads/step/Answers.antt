@@ -3,7 +3,7 @@ use Rattle.std.specs.Prelude.{pos}
 use Rattle.std.proofs.lemmas.Int.{ints, to_z_pos}
 use mir.Syntax.{w64}
 use Rattle.value_model.specs.declared.key.Key.TheVariants.{Int}
-use Rattle.value_model.specs.declared.words.Kind.{Kind}
+use Rattle.value_model.specs.declared.kind.Kind.{Kind}
 use Rattle.value_model.specs.Safe.{IsSafe}
 use Rattle.run_heap.specs.Places.{step}
 use Rattle.draft_core.specs.Paths.{few_entries, safe_index}

@@ -1,6 +1,6 @@
 use Rattle.std.proofs.Common.{◌+◌, ap, refl, arith, drop, map, ◌∙◌}
 use Rattle.value_model.specs.declared.key.Key.TheVariants as key
-use Rattle.value_model.specs.declared.words.Kind.TheVariants as kind
+use Rattle.value_model.specs.declared.kind.Kind.TheVariants as kind
 use Rattle.std.specs.FinMap.Entries.{is_sorted}
 use Rattle.value_model.specs.Order.{key_cmp}
 use Rattle.value_model.specs.Steps.{list_of_entries}

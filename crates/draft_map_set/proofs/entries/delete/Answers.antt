@@ -2,7 +2,7 @@ use Rattle.std.proofs.Common.{[], ◌∷◌}
 use Rattle.std.proofs.lemmas.Result.{err_from_is_err_and}
 use Rattle.draft_core.specs.Seen.{heap}
 use Rattle.run_heap.specs.Operations.{edited}
-use Rattle.map_set_meaning.specs.MapSet.{deleting}
+use Rattle.draft_map_set_spec.specs.MapSet.{deleting}
 use Rattle.draft_map_set.specs.Checks.{taken}
 use Rattle.draft_map_set.proofs.Facts.{edit_refused, refused}
 use Rattle.draft_map_set.proofs.entries.delete.Goals as goal

@@ -1,6 +1,6 @@
 use Rattle.std.proofs.lemmas.Result.{err_from_is_err_and}
 use Rattle.draft_core.specs.Seen.{heap}
-use Rattle.map_set_meaning.specs.MapSet.{map_set}
+use Rattle.draft_map_set_spec.specs.MapSet.{map_set}
 use Rattle.draft_map_set.proofs.Facts.{map_set_refused, refused}
 use Rattle.draft_map_set.proofs.maps.map_set.Goals as goal
 

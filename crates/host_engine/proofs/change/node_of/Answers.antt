@@ -1,5 +1,5 @@
 use Rattle.std.proofs.Common.{◌∙◌, sym, subst, List}
-use Rattle.value_model.specs.declared.words.Kind.TheVariants as kind
+use Rattle.value_model.specs.declared.kind.Kind.TheVariants as kind
 use Rattle.node_store.specs.Nodes.{is_node, built, CellsBelow}
 use Rattle.node_store.specs.declared.node.Cell.{Cell}
 use Rattle.host_engine.specs.Drafts.{plain_rows}

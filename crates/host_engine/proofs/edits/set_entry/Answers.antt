@@ -1,7 +1,7 @@
 use Rattle.std.proofs.Common.{subst}
 use Rattle.std.specs.Prelude.{Ok, Err, Some}
 use Rattle.value_model.specs.declared.key.Key.TheVariants as key
-use Rattle.value_model.specs.declared.words.Op.TheVariants as op
+use Rattle.value_model.specs.declared.op.Op.TheVariants as op
 use Rattle.patch_meaning.specs.Applying.{in_object}
 use Rattle.run_heap.specs.declared.value.Rv.{Rv}
 use Rattle.run_heap.specs.declared.value.Rv.TheVariants.{Prim}

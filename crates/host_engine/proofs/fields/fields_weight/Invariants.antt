@@ -1,6 +1,6 @@
 use Rattle.std.proofs.Common.{◌≡◌, ◌≤◌, ◌^◌, ◌+◌, min, map, drop}
 use Rattle.value_model.specs.Plain.{entries, weights}
-use Rattle.value_model.specs.declared.words.Kind.TheVariants as kind
+use Rattle.value_model.specs.declared.kind.Kind.TheVariants as kind
 use Rattle.host_engine.specs.Kept.{of_field}
 use Rattle.host_engine.proofs.fields.fields_weight.Given as goal
 

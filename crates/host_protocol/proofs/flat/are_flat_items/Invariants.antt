@@ -1,6 +1,6 @@
 use Rattle.std.proofs.Common.{◌≡◌, drop}
 use Rattle.serde_json.specs.View.{items_view}
-use Rattle.line_text.specs.Commands as spec
+use Rattle.host_protocol_spec.specs.Commands as spec
 use Rattle.host_protocol.proofs.flat.are_flat_items.Given as goal
 
 abbrev pub invariant-loop-item : goal.invariant-loop-item

@@ -1,7 +1,7 @@
 use Rattle.std.proofs.Common.{◌≡◌, List, [], ◌∷◌, length, refl, None, ap, ◌∙◌}
 use Rattle.serde_json.specs.View.{items_view}
 use Rattle.serde_json.specs.declared.value.Value.{Value}
-use Rattle.line_text.specs.Commands as spec
+use Rattle.host_protocol_spec.specs.Commands as spec
 use Rattle.host_protocol.proofs.flat.only_item.Goals as goal
 
 other_lengths : (vs : List Value) → (length vs ≡ 1 → ⊥) → None ≡ spec.only_item (items_view vs)

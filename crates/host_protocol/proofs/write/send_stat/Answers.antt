@@ -1,7 +1,7 @@
 use Rattle.std.proofs.Common.{subst}
 use Rattle.std.proofs.lemmas.Result.{on_ok_weaker}
 use Rattle.serde.specs.Event.{Logs, text}
-use Rattle.line_text.specs.Replies as line
+use Rattle.host_protocol_spec.specs.Replies as line
 use Rattle.host_protocol.proofs.write.send_stat.Goals as goal
 
 pub returns : goal.returns

@@ -1,6 +1,6 @@
 use Rattle.serde_json.proofs.FreeTexts.{text_of_value}
-use Rattle.line_text.proofs.NoFloat.{reply_no_float}
-use Rattle.line_text.specs.Replies.{reply_data}
+use Rattle.host_protocol_spec.proofs.NoFloat.{reply_no_float}
+use Rattle.host_protocol_spec.specs.Replies.{reply_data}
 use Rattle.host_protocol.proofs.write.write_reply.Goals as goal
 
 pub returns-in-Ok : goal.returns-in-Ok

@@ -5,7 +5,7 @@ use Rattle.value_model.specs.Order.{key_cmp}
 use Rattle.std.proofs.lemmas.Result.{err_from_is_err_and}
 use Rattle.value_model.specs.declared.key.Key.{Key}
 use Rattle.value_model.specs.declared.key.Key.TheVariants as key
-use Rattle.value_model.specs.declared.words.Kind.TheVariants as kind
+use Rattle.value_model.specs.declared.kind.Kind.TheVariants as kind
 use Rattle.value_model.specs.Plain.{Plain, values_in}
 use Rattle.value_model.specs.Steps.{list_of_entries}
 use Rattle.values.specs.Fits.{fields_fit}

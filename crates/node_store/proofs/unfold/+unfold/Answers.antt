@@ -1,6 +1,6 @@
 use Rattle.std.proofs.Common.{◌∙◌, map, subst}
 use Rattle.std.specs.List.{zip}
-use Rattle.value_model.specs.declared.words.Kind.{Kind}
+use Rattle.value_model.specs.declared.kind.Kind.{Kind}
 use Rattle.numbered.specs.Tree.{plain}
 use Rattle.numbered.specs.Store.{tree_at}
 use Rattle.values.specs.Seen.{of_field, of_entry}

@@ -4,7 +4,7 @@ use Rattle.value_model.specs.Limits.{is_reserved_text}
 use Rattle.value_model.specs.Steps.{list_of_entries}
 use Rattle.value_model.specs.Tables.{put_ascends}
 use Rattle.value_model.specs.declared.key.Key.TheVariants as key
-use Rattle.value_model.specs.declared.words.Kind.TheVariants as kind
+use Rattle.value_model.specs.declared.kind.Kind.TheVariants as kind
 use Rattle.values.specs.Seen.{of_field, of_fields, of_entry, of_entries, of_item, of_items}
 use Rattle.values.specs.declared.val.Entry.{Entry}
 use Rattle.values.specs.declared.val.Field.{Field}

@@ -1,4 +1,4 @@
-use Rattle.byte_spelling.specs.Numbers.{bytes_of_number}
+use Rattle.value_bytes_spec.specs.Numbers.{bytes_of_number}
 use Rattle.value_bytes.proofs.laws.law_bytes_of_number.Goals as goal
 
 pub returns : goal.returns

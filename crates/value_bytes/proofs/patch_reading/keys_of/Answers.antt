@@ -1,6 +1,6 @@
 use Rattle.std.proofs.lemmas.Result.{err_from_is_err_and}
 use Rattle.value_model.specs.declared.key.Key.{Key}
-use Rattle.byte_spelling.specs.Reading.{key_at, keys_at}
+use Rattle.value_bytes_spec.specs.Reading.{key_at, keys_at}
 use Rattle.value_bytes.proofs.Repeats.{keys_repeat, goes_on, ends, is_done}
 use Rattle.value_bytes.proofs.patch_reading.keys_of.Goals as goal
 

@@ -1,5 +1,5 @@
 use Rattle.std.proofs.Common.{◌≡◌, ◌-◌}
-use Rattle.byte_spelling.specs.Reading.{keys_at}
+use Rattle.value_bytes_spec.specs.Reading.{keys_at}
 use Rattle.value_bytes.specs.Runs.{with_front}
 use Rattle.value_bytes.proofs.patch_reading.keys_of.Given as goal
 

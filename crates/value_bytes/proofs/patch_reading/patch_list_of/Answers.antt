@@ -1,6 +1,6 @@
 use Rattle.std.proofs.lemmas.Result.{err_from_is_err_and}
 use Rattle.values.specs.declared.patch.Patch.{Patch}
-use Rattle.byte_spelling.specs.Reading.{patch_at, patch_list_at}
+use Rattle.value_bytes_spec.specs.Reading.{patch_at, patch_list_at}
 use Rattle.value_bytes.proofs.Repeats.{patches_repeat, goes_on, ends, is_done}
 use Rattle.value_bytes.proofs.patch_reading.patch_list_of.Goals as goal
 

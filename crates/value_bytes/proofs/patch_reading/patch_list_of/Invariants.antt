@@ -1,5 +1,5 @@
 use Rattle.std.proofs.Common.{◌≡◌, ◌-◌}
-use Rattle.byte_spelling.specs.Reading.{patch_list_at}
+use Rattle.value_bytes_spec.specs.Reading.{patch_list_at}
 use Rattle.value_bytes.specs.Runs.{with_front}
 use Rattle.value_bytes.proofs.patch_reading.patch_list_of.Given as goal
 

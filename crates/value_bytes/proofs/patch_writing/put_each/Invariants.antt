@@ -1,6 +1,6 @@
 use Rattle.std.proofs.Common.{◌≡◌, ◌++◌, drop}
 use Rattle.std.specs.List.{flat_map, AllByRecursion}
-use Rattle.byte_spelling.specs.Spelling.{patch_bytes, IsPatch, CanSpellPatch}
+use Rattle.value_bytes_spec.specs.Spelling.{patch_bytes, IsPatch, CanSpellPatch}
 use Rattle.value_bytes.proofs.patch_writing.put_each.Given as goal
 
 abbrev pub invariant-loop-p : goal.invariant-loop-p

@@ -1,7 +1,7 @@
 use Rattle.std.proofs.Common.{◌≡◌, ◌++◌, drop}
 use Rattle.std.specs.Prelude.{IsTrue}
 use Rattle.std.specs.List.{flat_map, AllByRecursion}
-use Rattle.byte_spelling.specs.Spelling.{key_bytes, is_word}
+use Rattle.value_bytes_spec.specs.Spelling.{key_bytes, is_word}
 use Rattle.value_bytes.proofs.patch_writing.put_keys.Given as goal
 
 abbrev pub invariant-loop-k : goal.invariant-loop-k

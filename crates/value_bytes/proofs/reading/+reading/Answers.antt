@@ -2,12 +2,12 @@ use Rattle.std.proofs.Common.{◌≡◌, ◌++◌, ◌∷◌, [], ◌<◌, map, 
 use Rattle.std.proofs.lemmas.Result.{err_from_is_err_and}
 use Rattle.std.proofs.lemmas.List.{map_push}
 use Rattle.value_model.specs.declared.key.Key.TheVariants.{Text}
-use Rattle.value_model.specs.declared.words.Kind.TheVariants as kind
+use Rattle.value_model.specs.declared.kind.Kind.TheVariants as kind
 use Rattle.values.specs.declared.val.Entry.{Entry}
 use Rattle.values.specs.declared.val.Field.{Field}
 use Rattle.values.specs.Seen.{of_field, of_entry, of_item, of_member}
-use Rattle.byte_spelling.specs.Chains.{read_ascends}
-use Rattle.byte_spelling.specs.Reading.{nested_at, follows}
+use Rattle.value_bytes_spec.specs.Chains.{read_ascends}
+use Rattle.value_bytes_spec.specs.Reading.{nested_at, follows}
 use Rattle.value_bytes.specs.Runs.{last_key}
 use Rattle.value_bytes.proofs.Loops.{goes_on, refused, ends, is_done, item_read, item_stops, no_level, a_level}
 use Rattle.value_bytes.proofs.reading.+reading.Goals as goal

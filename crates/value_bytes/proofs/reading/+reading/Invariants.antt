@@ -1,7 +1,7 @@
 use Rattle.std.proofs.Common.{◌≡◌, ◌-◌, ◌+◌, ◌*◌, None, map}
-use Rattle.value_model.specs.declared.words.Kind.TheVariants as kind
+use Rattle.value_model.specs.declared.kind.Kind.TheVariants as kind
 use Rattle.values.specs.Seen.{of_field, of_entry, of_item}
-use Rattle.byte_spelling.specs.Reading.{entries_at, nested_at}
+use Rattle.value_bytes_spec.specs.Reading.{entries_at, nested_at}
 use Rattle.value_bytes.specs.Runs.{last_key, with_front}
 use Rattle.value_bytes.proofs.reading.+reading.Given as goal
 

@@ -2,9 +2,9 @@ use Rattle.std.proofs.Common.{◌≡◌, ◌++◌, ◌∷◌, [], map, true, fal
 use Rattle.std.proofs.lemmas.Result.{err_from_is_err_and}
 use Rattle.std.proofs.lemmas.List.{map_push}
 use Rattle.value_model.specs.declared.key.Key.{Key}
-use Rattle.value_model.specs.declared.words.Kind.TheVariants as kind
+use Rattle.value_model.specs.declared.kind.Kind.TheVariants as kind
 use Rattle.values.specs.Seen.{of_member}
-use Rattle.byte_spelling.specs.Reading.{nested_at, follows}
+use Rattle.value_bytes_spec.specs.Reading.{nested_at, follows}
 use Rattle.value_bytes.specs.Runs.{last_key}
 use Rattle.value_bytes.proofs.Loops.{goes_on, refused, ends, is_done, member_read, member_stops}
 use Rattle.value_bytes.proofs.reading.members_of.Goals as goal

@@ -1,9 +1,9 @@
 use Rattle.std.proofs.Common.{List, Some, arith}
 use Rattle.values.specs.declared.patch.Patch.{Patch}
-use Rattle.byte_spelling.specs.Formats.{patches_format}
-use Rattle.byte_spelling.specs.Numbers.{IsBytes}
-use Rattle.byte_spelling.specs.Reading.{patches_at}
-use Rattle.byte_spelling.specs.Spelling.{patches_bytes, IsPatches}
+use Rattle.value_bytes_spec.specs.Formats.{patches_format}
+use Rattle.value_bytes_spec.specs.Numbers.{IsBytes}
+use Rattle.value_bytes_spec.specs.Reading.{patches_at}
+use Rattle.value_bytes_spec.specs.Spelling.{patches_bytes, IsPatches}
 use Rattle.value_bytes.proofs.Fronts.{front, front_again, not_nothing, no_front}
 use Rattle.value_bytes.proofs.take.take_patches.Goals as goal
 

@@ -1,9 +1,9 @@
 use Rattle.std.proofs.Common.{Some, arith}
 use Rattle.value_model.specs.Plain.{Plain}
-use Rattle.byte_spelling.specs.Formats.{value_format}
-use Rattle.byte_spelling.specs.Numbers.{IsBytes}
-use Rattle.byte_spelling.specs.Reading.{value_at}
-use Rattle.byte_spelling.specs.Spelling.{value_bytes, IsValue}
+use Rattle.value_bytes_spec.specs.Formats.{value_format}
+use Rattle.value_bytes_spec.specs.Numbers.{IsBytes}
+use Rattle.value_bytes_spec.specs.Reading.{value_at}
+use Rattle.value_bytes_spec.specs.Spelling.{value_bytes, IsValue}
 use Rattle.value_bytes.proofs.Fronts.{front, front_again, not_nothing, no_front}
 use Rattle.value_bytes.proofs.take.take_value.Goals as goal
 

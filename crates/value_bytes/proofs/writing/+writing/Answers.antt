@@ -1,6 +1,6 @@
 use Rattle.std.proofs.Common.{◌≡◌, ◌<◌, ◌^◌, length, sym, ap, subst, refl, ◌∙◌, arith}
 use Rattle.std.proofs.lemmas.Result.{on_ok_weaker}
-use Rattle.value_model.specs.declared.words.Kind.TheVariants as kind
+use Rattle.value_model.specs.declared.kind.Kind.TheVariants as kind
 use Rattle.value_model.specs.Plain.{Plain, node, weight}
 use Rattle.values.specs.Fits.{fields_fit, items_fit, entries_fit, members_fit}
 use Rattle.values.specs.Seen.{plain_of, of_field, of_entry, of_item, of_member, of_fields, of_entries, of_items, of_members}

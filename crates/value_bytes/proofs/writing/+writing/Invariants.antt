@@ -1,9 +1,9 @@
 use Rattle.std.proofs.Common.{◌≡◌, ◌≤◌, ◌+◌, ◌*◌, ◌++◌, drop}
-use Rattle.value_model.specs.declared.words.Kind.TheVariants as kind
+use Rattle.value_model.specs.declared.kind.Kind.TheVariants as kind
 use Rattle.value_model.specs.Plain.{values, values_in, weights}
 use Rattle.value_model.specs.Well.{all_well}
 use Rattle.values.specs.Seen.{of_fields, of_entries, of_items}
-use Rattle.byte_spelling.specs.Spelling.{entries_bytes, all_words_in}
+use Rattle.value_bytes_spec.specs.Spelling.{entries_bytes, all_words_in}
 use Rattle.value_bytes.proofs.writing.+writing.Given as goal
 
 abbrev pub decreases-put_nested : goal.decreases-put_nested

@@ -1,8 +1,8 @@
 use Rattle.std.proofs.Common.{◌≡◌, ◌++◌, drop}
-use Rattle.value_model.specs.declared.words.Kind.TheVariants as kind
+use Rattle.value_model.specs.declared.kind.Kind.TheVariants as kind
 use Rattle.value_model.specs.Well.{all_well}
 use Rattle.values.specs.Seen.{of_members}
-use Rattle.byte_spelling.specs.Spelling.{entries_bytes, all_words_in}
+use Rattle.value_bytes_spec.specs.Spelling.{entries_bytes, all_words_in}
 use Rattle.value_bytes.proofs.writing.put_members.Given as goal
 
 abbrev pub invariant-loop-k : goal.invariant-loop-k

@@ -2,7 +2,7 @@ use Rattle.std.proofs.Common.{◌≡◌, ◌≤◌, ◌+◌, ◌*◌, ◌||◌, 
 use Rattle.value_model.specs.Limits.{any_long_key, any_reserved_key}
 use Rattle.value_model.specs.Plain.{values, values_in}
 use Rattle.value_model.specs.Well.{all_well}
-use Rattle.value_model.specs.declared.words.Kind.TheVariants as kind
+use Rattle.value_model.specs.declared.kind.Kind.TheVariants as kind
 use Rattle.values.specs.Seen.{of_fields, of_entries, of_items}
 use Rattle.value_checks.proofs.keys.+keys.Given as goal
 

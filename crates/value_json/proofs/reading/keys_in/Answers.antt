@@ -1,4 +1,4 @@
-use Rattle.value_text.specs.Reading.{key_from}
+use Rattle.value_json_spec.specs.Reading.{key_from}
 use Rattle.value_json.proofs.Steps.{all_next, all_done}
 use Rattle.value_json.proofs.reading.keys_in.Goals as goal
 

@@ -1,5 +1,5 @@
 use Rattle.std.proofs.Common.{drop}
-use Rattle.value_text.specs.Reading.{key_from}
+use Rattle.value_json_spec.specs.Reading.{key_from}
 use Rattle.value_json.proofs.Steps.{Along}
 use Rattle.value_json.proofs.reading.keys_in.Given as goal
 

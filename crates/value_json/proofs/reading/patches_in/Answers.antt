@@ -1,4 +1,4 @@
-use Rattle.value_text.specs.Patches.{patch_walked}
+use Rattle.value_json_spec.specs.Patches.{patch_walked}
 use Rattle.value_json.proofs.Steps.{all_next, all_done}
 use Rattle.value_json.proofs.reading.patches_in.Goals as goal
 

@@ -1,5 +1,5 @@
 use Rattle.std.proofs.Common.{drop}
-use Rattle.value_text.specs.Patches.{patch_walked}
+use Rattle.value_json_spec.specs.Patches.{patch_walked}
 use Rattle.value_json.proofs.Steps.{Along}
 use Rattle.value_json.proofs.reading.patches_in.Given as goal
 

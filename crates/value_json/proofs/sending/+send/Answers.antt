@@ -4,7 +4,7 @@ use Rattle.std.proofs.lemmas.Result.{on_ok_weaker}
 use Rattle.serde.specs.Event.{Logs, seq_begins, map_begins}
 use Rattle.serde_json.specs.Events.{SendsItems, SendsMembers}
 use Rattle.value_json.proofs.Lengths.{fields_len, elements_len, pairs_len}
-use Rattle.value_text.specs.Printing.{fields_data, elements_data, pairs_data}
+use Rattle.value_json_spec.specs.Printing.{fields_data, elements_data, pairs_data}
 use Rattle.values.specs.Seen.{of_fields, of_entries, of_items}
 use Rattle.value_json.proofs.sending.+send.Goals as goal
 

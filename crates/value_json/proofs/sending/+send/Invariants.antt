@@ -3,7 +3,7 @@ use Rattle.serde.specs.Event.{Log}
 use Rattle.serde_json.specs.Events.{SendsItems, SendsMembers}
 use Rattle.value_json.specs.Sound.{all_sound}
 use Rattle.value_model.specs.Plain.{values, values_in}
-use Rattle.value_text.specs.Printing.{fields_data, elements_data, pairs_data}
+use Rattle.value_json_spec.specs.Printing.{fields_data, elements_data, pairs_data}
 use Rattle.values.specs.Seen.{of_fields, of_entries, of_items}
 use Rattle.value_json.proofs.sending.+send.Given as goal
 

@@ -4,7 +4,7 @@ use Rattle.std.proofs.lemmas.Result.{on_ok_weaker}
 use Rattle.serde.specs.Event.{Logs, seq_begins}
 use Rattle.serde_json.specs.Events.{SendsItems}
 use Rattle.value_json.proofs.Lengths.{keys_len}
-use Rattle.value_text.specs.Printing.{keys_data}
+use Rattle.value_json_spec.specs.Printing.{keys_data}
 use Rattle.values.specs.Seen.{of_members}
 use Rattle.value_json.proofs.sending.send_members.Goals as goal
 

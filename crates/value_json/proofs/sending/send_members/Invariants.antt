@@ -2,7 +2,7 @@ use Rattle.std.proofs.Common.{◌≡◌, drop}
 use Rattle.serde.specs.Event.{Log}
 use Rattle.serde_json.specs.Events.{SendsItems}
 use Rattle.value_json.specs.Sound.{all_sound}
-use Rattle.value_text.specs.Printing.{keys_data}
+use Rattle.value_json_spec.specs.Printing.{keys_data}
 use Rattle.values.specs.Seen.{of_members}
 use Rattle.value_json.proofs.sending.send_members.Given as goal
 

@@ -5,7 +5,7 @@ use Rattle.serde.specs.Event.{Logs, seq_begins}
 use Rattle.serde_json.specs.Events.{SendsItems}
 use Rattle.serde_json.specs.View.{items_of}
 use Rattle.value_json.proofs.Lengths.{mapped_len}
-use Rattle.value_text.specs.Patches.{patch_data}
+use Rattle.value_json_spec.specs.Patches.{patch_data}
 use Rattle.value_json.proofs.sending_patches.send_list.Goals as goal
 
 pub returns : goal.returns

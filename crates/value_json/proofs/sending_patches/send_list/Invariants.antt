@@ -2,7 +2,7 @@ use Rattle.std.proofs.Common.{map, drop}
 use Rattle.serde.specs.Event.{Log}
 use Rattle.serde_json.specs.Events.{SendsItems}
 use Rattle.serde_json.specs.View.{items_of}
-use Rattle.value_text.specs.Patches.{patch_data}
+use Rattle.value_json_spec.specs.Patches.{patch_data}
 use Rattle.value_json.proofs.sending_patches.send_list.Given as goal
 
 -- whatever ends it well from here ends it well from the start

@@ -5,8 +5,8 @@ use Rattle.serde.specs.Event.{Logs, seq_begins}
 use Rattle.serde_json.specs.Events.{SendsItems}
 use Rattle.serde_json.specs.View.{items_of}
 use Rattle.value_json.proofs.Lengths.{mapped_len}
-use Rattle.value_text.specs.Patches as text
-use Rattle.value_text.specs.Printing.{key_data}
+use Rattle.value_json_spec.specs.Patches as text
+use Rattle.value_json_spec.specs.Printing.{key_data}
 use Rattle.value_json.proofs.sending_patches.send_steps.Goals as goal
 
 pub returns : goal.returns

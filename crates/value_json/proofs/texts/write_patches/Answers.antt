@@ -1,6 +1,6 @@
 use Rattle.serde_json.proofs.FreeTexts.{text_of_value}
-use Rattle.value_text.proofs.NoFloat.{patches_no_float}
-use Rattle.value_text.specs.Patches.{patches_data}
+use Rattle.value_json_spec.proofs.NoFloat.{patches_no_float}
+use Rattle.value_json_spec.specs.Patches.{patches_data}
 use Rattle.value_json.proofs.texts.write_patches.Goals as goal
 
 pub returns-in-Ok : goal.returns-in-Ok

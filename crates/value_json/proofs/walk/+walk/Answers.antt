@@ -2,8 +2,8 @@ use Rattle.std.proofs.Common.{◌≡◌, List, map, length, refl, sym, ap, ◌�
 use Rattle.std.proofs.lemmas.Grind.{common_steps}
 use Rattle.serde_json.specs.View.{view, members_view}
 use Rattle.serde_json.proofs.Views.{Entry as NameValue}
-use Rattle.value_text.specs.Answers.{result_map}
-use Rattle.value_text.specs.Reading.{fields, walked}
+use Rattle.value_json_spec.specs.Answers.{result_map}
+use Rattle.value_json_spec.specs.Reading.{fields, walked}
 use Rattle.values.specs.Seen.{of_field}
 use Rattle.values.specs.declared.val.Field.{Field}
 use Rattle.value_json.specs.Ranks.{of_pairs}

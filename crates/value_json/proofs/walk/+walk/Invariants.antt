@@ -1,7 +1,7 @@
 use Rattle.std.proofs.Common.{◌≡◌, ◌++◌, [], map, drop}
 use Rattle.serde_json.specs.View.{items_view, members_view}
-use Rattle.value_text.specs.Answers.{result_map}
-use Rattle.value_text.specs.Reading.{elements, fields, map_pairs}
+use Rattle.value_json_spec.specs.Answers.{result_map}
+use Rattle.value_json_spec.specs.Reading.{elements, fields, map_pairs}
 use Rattle.value_json.specs.Ranks.{of_pairs}
 use Rattle.value_json.proofs.Steps.{joined, keys, names}
 use Rattle.values.specs.Seen.{of_item, of_field}

@@ -1,6 +1,6 @@
 use Rattle.std.proofs.Common.{◌≡◌, drop}
 use Rattle.serde_json.specs.View.{items_view}
-use Rattle.value_text.specs.Reading.{are_primitive}
+use Rattle.value_json_spec.specs.Reading.{are_primitive}
 use Rattle.value_json.proofs.walk.are_primitive.Given as goal
 
 abbrev pub invariant-loop-item : goal.invariant-loop-item

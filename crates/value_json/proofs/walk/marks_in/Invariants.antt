@@ -1,6 +1,6 @@
 use Rattle.std.proofs.Common.{◌≡◌, [], drop}
 use Rattle.serde_json.specs.View.{items_view}
-use Rattle.value_text.specs.Reading.{set_members}
+use Rattle.value_json_spec.specs.Reading.{set_members}
 use Rattle.value_json.specs.Ranks.{of_marks}
 use Rattle.value_json.proofs.walk.marks_in.Given as goal
 

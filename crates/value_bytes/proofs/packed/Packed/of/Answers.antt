@@ -1,5 +1,5 @@
 use Rattle.std.proofs.Common.{◌++◌, ◌∙◌, ap, List}
-use Rattle.byte_spelling.specs.Spelling.{pair_bytes}
+use Rattle.value_bytes_spec.specs.Spelling.{pair_bytes}
 use Rattle.value_bytes.proofs.Packs.{stands_for, is_packed}
 use Rattle.value_bytes.proofs.packed.Packed.of.Goals as goal
 

@@ -1,6 +1,6 @@
 use Rattle.std.proofs.Common.{◌≡◌, ℕ, List, None, subst}
 use Rattle.std.specs.Rc.{rc_slice_items}
-use Rattle.byte_spelling.specs.Reading.{pair_at}
+use Rattle.value_bytes_spec.specs.Reading.{pair_at}
 use Rattle.value_bytes.proofs.Packs.{packed_reads}
 use Rattle.value_bytes.proofs.packed.Packed.pair.Goals as goal
 

@@ -1,0 +1,234 @@
+-- What rules a call on a list out before its elements are looked at, and what is left of its row then.
+use Rattle.std.proofs.Common.{◌≡◌, ◌≢◌, ℕ, List, [], ◌∷◌, length, refl, ap, ◌∙◌, arith, Bool, true, false, not}
+use Rattle.std.specs.Prelude.{◌||◌, ◌==◌, Option, Some, None, option_map, Result, Ok, Err, if◌then◌else◌}
+use Rattle.std.specs.List.{list_any}
+use Rattle.value_model.specs.declared.kind.Kind.{Kind}
+use Rattle.value_model.specs.declared.kind.Kind.TheVariants as kind
+use Rattle.run_heap.specs.declared.value.Rv.{Rv}
+use Rattle.run_heap.specs.declared.value.Rv.TheVariants.{Undefined, Prim, Obj, Frozen}
+use Rattle.run_heap.specs.declared.content.Content.{Content}
+use Rattle.run_heap.specs.declared.fault.DraftFault.{DraftFault}
+use Rattle.run_heap.specs.declared.fault.DraftFault.TheVariants as fault
+use Rattle.run_heap.specs.Heap.{Heap, shown, is_foreign}
+use Rattle.run_heap.specs.Operations.{unless, any_foreign, is_frozen, is_list, is_undefined, edited, edit_shown, then_write, then_read, rows_of, rewrite, table_of, kind_of}
+use Rattle.run_heap.specs.Sound.{IsObject, IsContainer, IsStored, AllStored, Owned, AllOwned}
+use Rattle.run_heap.specs.Laws.{left_false, right_false}
+use Rattle.array_ops_spec.specs.Calls.{elements, items, on_list, with_items, read_list, read_shown}
+
+-- the elements of a container, as a list has them
+abbrev pub elements_of : Heap → Rv → List Rv
+elements_of h of = elements (table_of h of)
+
+-- a list with other elements
+abbrev pub with_elements : List Rv → Heap → Rv → Heap
+with_elements xs h of = rewrite (λ _. items xs) h of
+
+-- ---- which lists may be read, and which may be written
+-- the elements of a list, or the first refusal
+abbrev pub readable : Heap → Rv → List Rv → Result (List Rv) DraftFault
+readable h of others = read_list (λ xs. xs) h of others
+
+abbrev pub writable_shown : Rv → Option Content → Result (List Rv) DraftFault
+writable_shown of None = Err fault.TypeMismatch
+writable_shown of (Some c) = unless ((not (is_list c.kind), fault.TypeMismatch) ∷ (is_frozen of, fault.Frozen) ∷ []) (Ok (elements c.table))
+
+-- the same where the list is to be written
+abbrev pub writable : Heap → Rv → List Rv → Result (List Rv) DraftFault
+writable h of others = if any_foreign h (of ∷ others) then Err fault.Revoked else writable_shown of (shown h of)
+
+-- the argument is a list, and no argument is foreign
+pub record IsListed (h : Heap) (of : Rv) (others : List Rv) : Type 0 where
+  pub list : kind_of h of ≡ Some kind.List
+  pub ours : any_foreign h (of ∷ others) ≡ false
+
+-- it isn't, for this cause
+pub record IsUnlisted (h : Heap) (of : Rv) (others : List Rv) (e : DraftFault) : Type 0 where
+  pub read : readable h of others ≡ Err e
+  pub write : writable h of others ≡ Err e
+
+-- a list of so many elements, which may be read
+pub record IsReadable (h : Heap) (of : Rv) (others : List Rv) (n : ℕ) : Type 0 where
+  pub found : readable h of others ≡ Ok (elements_of h of)
+  pub container : IsContainer h of
+  pub ours : any_foreign h (of ∷ others) ≡ false
+  pub long : n ≡ length (table_of h of)
+
+-- one that may be written
+pub record IsWritable (h : Heap) (of : Rv) (others : List Rv) (n : ℕ) : Type 0 where
+  pub found : writable h of others ≡ Ok (elements_of h of)
+  pub object : IsObject h of
+  pub container : IsContainer h of
+  pub list : kind_of h of ≡ Some kind.List
+  pub ours : any_foreign h (of ∷ others) ≡ false
+  pub long : n ≡ length (table_of h of)
+
+-- ---- from tests in code to these facts
+not_true : (b : Bool) → not b ≡ false → b ≡ true
+not_true true h = refl
+not_true false h = absurd (cc)
+
+eq_of : (m n : ℕ) → (m == n) ≡ true → m ≡ n
+eq_of m n h = grind (arith, h)
+
+pub refused_foreign : (h : Heap) (of : Rv) (others : List Rv) → any_foreign h (of ∷ others) ≡ true → IsUnlisted h of others fault.Revoked
+refused_foreign h of others p = record { read = rw p refl; write = rw p refl }
+
+abbrev kind_in : Option Content → Option Kind
+kind_in s = option_map (λ (c : Content). c.kind) s
+
+other_list : (k : Kind) → (let o : Option Kind = Some k in o) ≢ Some kind.List → is_list k ≡ false
+other_list kind.Obj p = refl
+other_list kind.List p = absurd (p refl)
+other_list kind.Map p = refl
+other_list kind.Set p = refl
+
+is_list_of : (k : Kind) → (let o : Option Kind = Some k in o) ≡ Some kind.List → is_list k ≡ true
+is_list_of kind.Obj p = absurd (cc)
+is_list_of kind.List p = refl
+is_list_of kind.Map p = absurd (cc)
+is_list_of kind.Set p = absurd (cc)
+
+refused_read : (s : Option Content) → kind_in s ≢ Some kind.List → then_read (read_shown (λ xs. xs)) s ≡ Err fault.TypeMismatch
+refused_read None other = refl
+refused_read (Some c) other = let l = other_list c.kind other in rw l refl
+
+refused_write : (of : Rv) (s : Option Content) → kind_in s ≢ Some kind.List → writable_shown of s ≡ Err fault.TypeMismatch
+refused_write of None other = refl
+refused_write of (Some c) other = let l = other_list c.kind other in rw l refl
+
+pub refused_kind : (h : Heap) (of : Rv) (others : List Rv) → any_foreign h (of ∷ others) ≡ false → kind_of h of ≢ Some kind.List → IsUnlisted h of others fault.TypeMismatch
+refused_kind h of others p other = record { read = rw p (refused_read (shown h of) other); write = rw p (refused_write of (shown h of) other) }
+
+list_read : (s : Option Content) → kind_in s ≡ Some kind.List → then_read (read_shown (λ xs. xs)) s ≡ Ok (elements (rows_of s))
+list_read None p = absurd (cc)
+list_read (Some c) p = let l = is_list_of c.kind p in rw l refl
+
+list_write : (of : Rv) (s : Option Content) → is_frozen of ≡ false → kind_in s ≡ Some kind.List → writable_shown of s ≡ Ok (elements (rows_of s))
+list_write of None f p = absurd (cc)
+list_write of (Some c) f p = let l = is_list_of c.kind p in rw (l, f) refl
+
+frozen_write : (of : Rv) (s : Option Content) → is_frozen of ≡ true → kind_in s ≡ Some kind.List → writable_shown of s ≡ Err fault.Frozen
+frozen_write of None f p = absurd (cc)
+frozen_write of (Some c) f p = let l = is_list_of c.kind p in rw (l, f) refl
+
+ours_first : (h : Heap) (of : Rv) (others : List Rv) → any_foreign h (of ∷ others) ≡ false → is_foreign h of ≡ false
+ours_first h of others p = left_false _ _ p
+
+ours_rest : (h : Heap) (of : Rv) (others : List Rv) → any_foreign h (of ∷ others) ≡ false → any_foreign h others ≡ false
+ours_rest h of others p = right_false _ _ p
+
+pub container : (h : Heap) (of : Rv) → Owned h of → is_foreign h of ≡ false → kind_of h of ≡ Some kind.List → IsContainer h of
+container h Undefined o f p = absurd (cc)
+container h (Prim k) o f p = absurd (cc)
+container h (Obj r) o f p = let s = eq_of r.scope h.scope (not_true _ f) in (s, o s)
+container h (Frozen id) o f p = o
+
+object : (h : Heap) (of : Rv) → is_frozen of ≡ false → IsContainer h of → IsObject h of
+object h Undefined f o = o
+object h (Prim k) f o = o
+object h (Obj r) f o = o
+object h (Frozen id) f o = absurd (cc)
+
+pub may_read : (h : Heap) (of : Rv) (others : List Rv) (n : ℕ) → Owned h of → IsListed h of others → n ≡ length (table_of h of) → IsReadable h of others n
+may_read h of others n o l long =
+    let ours = l.ours in
+    record {
+      found = rw ours (list_read (shown h of) l.list);
+      container = container h of o (ours_first h of others ours) l.list;
+      ours = ours;
+      long = long;
+    }
+
+pub may_write : (h : Heap) (of : Rv) (others : List Rv) (n : ℕ) → Owned h of → IsListed h of others → is_frozen of ≡ false → n ≡ length (table_of h of) → IsWritable h of others n
+may_write h of others n o l f long =
+    let ours = l.ours in
+    let there = container h of o (ours_first h of others ours) l.list in
+    record {
+      found = rw ours (list_write of (shown h of) f l.list);
+      object = object h of f there;
+      container = there;
+      list = l.list;
+      ours = ours;
+      long = long;
+    }
+
+pub refused_frozen : (h : Heap) (of : Rv) (others : List Rv) → IsListed h of others → is_frozen of ≡ true → writable h of others ≡ Err fault.Frozen
+refused_frozen h of others l f = let ours = l.ours in rw ours (frozen_write of (shown h of) f l.list)
+
+-- ---- items that may be stored
+stored : (h : Heap) (v : Rv) → Owned h v → is_foreign h v ≡ false → is_undefined v ≡ false → IsStored h v
+stored h Undefined o f u = absurd (cc)
+stored h (Prim k) o f u = tt
+stored h (Obj r) o f u = let s = eq_of r.scope h.scope (not_true _ f) in (s, o s)
+stored h (Frozen id) o f u = o
+
+all_stored : (h : Heap) (vs : List Rv) → AllOwned h vs → any_foreign h vs ≡ false → list_any is_undefined vs ≡ false → AllStored h vs
+all_stored h [] o f u = tt
+all_stored h (v ∷ vs) o f u = (stored h v o.0 (left_false _ _ f) (left_false _ _ u), all_stored h vs o.1 (right_false _ _ f) (right_false _ _ u))
+
+pub items_stored : (h : Heap) (of : Rv) (vs : List Rv) → AllOwned h vs → any_foreign h (of ∷ vs) ≡ false → list_any is_undefined vs ≡ false → AllStored h vs
+items_stored h of vs o f u = all_stored h vs o (ours_rest h of vs f) u
+
+-- ---- what is left of a row that writes
+module _ {X : Type 0} (f : List Rv → Result (List Rv × X) DraftFault) (h : Heap) (of : Rv) where
+  abbrev then_leave : Result (List Rv × X) DraftFault → Result (Heap × X) DraftFault
+  then_leave (Ok left) = Ok (with_elements left.0 h of, left.1)
+  then_leave (Err e) = Err e
+
+  abbrev then_edit : Result (List Rv) DraftFault → Result (Heap × X) DraftFault
+  then_edit (Ok xs) = then_leave (f xs)
+  then_edit (Err e) = Err e
+
+  leave_shown : (c : Content) (r : Result (List Rv × X) DraftFault) → shown h of ≡ Some c → then_write h of c (with_items r) ≡ then_leave r
+  leave_shown c (Ok left) p = rw p refl
+  leave_shown c (Err e) p = refl
+
+  edit_of : (s : Option Content) → shown h of ≡ s → edit_shown (on_list f) h of s ≡ then_edit (writable_shown of s)
+  edit_of None p = refl
+  edit_of (Some c) p = elim (is_list c.kind) as (λ b. is_list c.kind ≡ b → edit_shown (on_list f) h of (Some c) ≡ then_edit (writable_shown of (Some c))) [
+    | false ↦ λ q. rw q refl
+    | true ↦ λ q. elim (is_frozen of) as (λ b. is_frozen of ≡ b → edit_shown (on_list f) h of (Some c) ≡ then_edit (writable_shown of (Some c))) [
+      | true ↦ λ z. rw (q, z) refl
+      | false ↦ λ z. rw (q, z) (leave_shown c (f (elements c.table)) p)
+    ] refl
+  ] refl
+
+  edit_is : (others : List Rv) → edited (on_list f) h of others ≡ then_edit (writable h of others)
+  edit_is others = elim (any_foreign h (of ∷ others)) as (λ b. any_foreign h (of ∷ others) ≡ b → edited (on_list f) h of others ≡ then_edit (writable h of others)) [
+    | true ↦ λ p. rw p refl
+    | false ↦ λ p. rw p (edit_of (shown h of) refl)
+  ] refl
+
+  pub row_refused : (others : List Rv) (e : DraftFault) → writable h of others ≡ Err e → edited (on_list f) h of others ≡ Err e
+  row_refused others e p = edit_is others ∙ ap then_edit p
+
+  pub row_stopped : (others : List Rv) (xs : List Rv) (e : DraftFault) → writable h of others ≡ Ok xs → f xs ≡ Err e → edited (on_list f) h of others ≡ Err e
+  row_stopped others xs e p q = edit_is others ∙ ap then_edit p ∙ ap then_leave q
+
+  pub row_done : (others : List Rv) (xs ys : List Rv) (a : X) → writable h of others ≡ Ok xs → f xs ≡ Ok (ys, a) → edited (on_list f) h of others ≡ Ok (with_elements ys h of, a)
+  row_done others xs ys a p q = edit_is others ∙ ap then_edit p ∙ ap then_leave q
+
+-- ---- and of one that reads
+module _ {X : Type 0} (f : List Rv → X) (h : Heap) (of : Rv) (others : List Rv) where
+  abbrev then_look : Result (List Rv) DraftFault → Result X DraftFault
+  then_look (Ok xs) = Ok (f xs)
+  then_look (Err e) = Err e
+
+  look_shown : (s : Option Content) → then_read (read_shown f) s ≡ then_look (then_read (read_shown (λ xs. xs)) s)
+  look_shown None = refl
+  look_shown (Some c) = elim (is_list c.kind) as (λ b. is_list c.kind ≡ b → then_read (read_shown f) (Some c) ≡ then_look (then_read (read_shown (λ xs. xs)) (Some c))) [
+    | false ↦ λ q. rw q refl
+    | true ↦ λ q. rw q refl
+  ] refl
+
+  look_is : read_list f h of others ≡ then_look (readable h of others)
+  look_is = elim (any_foreign h (of ∷ others)) as (λ b. any_foreign h (of ∷ others) ≡ b → read_list f h of others ≡ then_look (readable h of others)) [
+    | true ↦ λ p. rw p refl
+    | false ↦ λ p. rw p (look_shown (shown h of))
+  ] refl
+
+  pub read_refused : (e : DraftFault) → readable h of others ≡ Err e → read_list f h of others ≡ Err e
+  read_refused e p = look_is ∙ ap then_look p
+
+  pub read_done : (xs : List Rv) → readable h of others ≡ Ok xs → read_list f h of others ≡ Ok (f xs)
+  read_done xs p = look_is ∙ ap then_look p
