@@ -17,7 +17,7 @@ use std::env;
 use std::time::{Duration, Instant};
 use value_checks::check_state;
 use value_model::{Key, Safe, Text};
-use values::{Field, ValNode, Val};
+use values::{Field, Val, ValNode};
 
 /// How many objects the list has.
 const OBJECTS: u32 = 100_000;

@@ -11,7 +11,7 @@ use node_store::Kind;
 use run_heap::{Content, ObjRef, Rv, Table};
 use std::alloc::{AllocError, Global};
 use value_model::Key;
-use values::{Entry, Field, ValNode, Val};
+use values::{Entry, Field, Val, ValNode};
 
 /// Adds the objects of the value's containers, and answers what stands for it. The objects of a scope's number have the names
 /// from `first` on, those in `out` before.

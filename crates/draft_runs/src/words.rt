@@ -7,7 +7,7 @@ use std::alloc::Global;
 use value_checks::{check_state, check_value};
 use value_json::read_value;
 use value_model::{Key, Kind};
-use values::{ValNode, Val};
+use values::{Val, ValNode};
 
 /// A value that a call is handed.
 #[derive(Drop)]

@@ -14,7 +14,7 @@ ghost use Rattle.values.specs.Seen.{of_field, of_entry, of_item, of_member};
 use crate::fault::EditFault;
 use crate::tables::{put_entry, put_field, put_member, remove_entry, remove_field, remove_member};
 use std::alloc::Global;
-use values::{Entry, Field, Key, ValNode, Op, PatchWhy, Safe, Text, Val};
+use values::{Entry, Field, Key, Op, PatchWhy, Safe, Text, Val, ValNode};
 
 const LONGEST: usize = 1024;
 

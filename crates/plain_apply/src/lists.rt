@@ -10,7 +10,7 @@ ghost use Rattle.values.specs.Seen.{of_item};
 
 use crate::fault::EditFault;
 use std::alloc::Global;
-use values::{Key, ValNode, Op, PatchWhy, Safe, Text, Val};
+use values::{Key, Op, PatchWhy, Safe, Text, Val, ValNode};
 
 pub(crate) fn in_list(
     alloc: Global,

@@ -15,7 +15,7 @@ use crate::fault::EditFault;
 use crate::lists::in_list;
 use std::alloc::Global;
 use value_checks::{entry_place, field_place};
-use values::{Entry, Field, Key, ValNode, Op, PatchWhy, Text, Val};
+use values::{Entry, Field, Key, Op, PatchWhy, Text, Val, ValNode};
 
 /// The container with the patch at its step made.
 #[tactic(auto, using(value_model::specs::Steps::list_of_entries))]

@@ -14,7 +14,7 @@ use std::alloc::{AllocError, Global};
 use std::env;
 use std::time::{Duration, Instant};
 use value_checks::check_state;
-use values::{Key, ValNode, Val};
+use values::{Key, Val, ValNode};
 
 /// How many objects the list has.
 const OBJECTS: u32 = 300_000;

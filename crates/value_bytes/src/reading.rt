@@ -8,7 +8,7 @@ use crate::fields::{count_of, key_of, kind_of, text_of};
 use crate::order::{is_next_entry, is_next_field, is_next_member};
 use crate::stop::Stop;
 use std::alloc::Global;
-use values::{Entry, Field, Key, Kind, ValNode, Val};
+use values::{Entry, Field, Key, Kind, Val, ValNode};
 
 /// The value at the front, of at most so many levels of containers.
 #[cycle(reading)]

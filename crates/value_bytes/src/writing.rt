@@ -7,7 +7,7 @@ ghost use Rattle.values.specs.Seen.{of_fields, of_entries, of_items, of_members}
 ghost use Rattle.value_bytes_spec.specs.Spelling.{text_bytes, key_bytes, value_bytes, entries_bytes, is_text, is_word, all_words, all_words_in};
 
 use std::alloc::AllocError;
-use values::{Entry, Field, Key, ValNode, Text, Val};
+use values::{Entry, Field, Key, Text, Val, ValNode};
 
 /// Appends a count of four bytes.
 pub(crate) fn put_count(out: &mut Vec<u8>, count: usize) -> Result<(), AllocError>

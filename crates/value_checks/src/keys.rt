@@ -4,7 +4,7 @@ ghost use Rattle.value_model.specs.Well.{well, all_well};
 ghost use Rattle.value_model.specs.declared.kind.Kind.TheVariants as kind;
 ghost use Rattle.values.specs.Seen.{of_fields, of_entries, of_items, of_members};
 
-use values::{Entry, Field, Key, ValNode, Text, Val};
+use values::{Entry, Field, Key, Text, Val, ValNode};
 
 const LONGEST: usize = 1024;
 

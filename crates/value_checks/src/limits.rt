@@ -3,7 +3,7 @@ ghost use Rattle.value_model.specs.Limits.{value_limit, state_limit};
 ghost use Rattle.value_model.specs.Well.{well as is_well};
 
 use crate::keys::key_faults;
-use values::{Limit, ValNode, Val, depth, weight};
+use values::{Limit, Val, ValNode, depth, weight};
 
 /// Whether a value is accepted: the first limit that it is past is `TooDeep` (more than 32 containers nest), `TooBig` (it
 /// weighs more than 2^20), `KeyTooLong` (a key of an object or a Map, or a member of a Set, is a text of more than 1,024

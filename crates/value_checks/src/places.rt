@@ -8,7 +8,7 @@ ghost use Rattle.value_model.specs.declared.kind.Kind.TheVariants as kind;
 ghost use Rattle.values.specs.Seen.{of_field, of_entry, of_item, of_member};
 
 use std::cmp::Ordering;
-use values::{Entry, Field, Key, ValNode, Path, Text, Val};
+use values::{Entry, Field, Key, Path, Text, Val, ValNode};
 
 /// What stands at a path, None exactly where nothing does. A step is a text in an object, an integer from 0 below the
 /// length in a list, any key in a Map; a Set and a primitive have no places.

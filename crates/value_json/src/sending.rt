@@ -14,7 +14,7 @@ ghost use Rattle.value_json_spec.specs.Printing.{key_data, val_data};
 ghost use Rattle.values.specs.Seen.{of_field, of_fields, of_entries, of_items, of_members};
 
 use serde::{Described, Serialize, Serializer};
-use values::{Entry, Field, Key, ValNode, Val};
+use values::{Entry, Field, Key, Val, ValNode};
 
 /// A value in its JSON form, to be printed.
 #[derive(Drop)]

@@ -18,7 +18,7 @@ use serde_json::{Map, Number, Value};
 use std::alloc::{AllocError, Global};
 use std::collections::BTreeMap;
 use value_json_spec::JsonWhy;
-use values::{Entry, Field, Key, ValNode, Safe, Text, TextFault, Val};
+use values::{Entry, Field, Key, Safe, Text, TextFault, Val, ValNode};
 
 fn safe_in(number: &Number) -> Option<Safe>
     ensures { result ≡ spec.safe_of (number_view number.now) }

@@ -21,4 +21,3 @@ pub use op::Op;
 pub use patch_why::PatchWhy;
 pub use safe::Safe;
 pub use text::{Text, TextFault};
-

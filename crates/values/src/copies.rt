@@ -1,7 +1,7 @@
 ghost use Rattle.std.specs.Prelude.{◌≡◌, IfOk};
 ghost use Rattle.values.specs.Seen.{of_fields, of_entries, of_items};
 
-use crate::val::{Entry, Field, ValNode, Val};
+use crate::val::{Entry, Field, Val, ValNode};
 use std::alloc::{AllocError, Global};
 use value_model::Key;
 

@@ -3,7 +3,7 @@ ghost use Rattle.value_model.specs.Plain as spec;
 ghost use Rattle.value_model.specs.declared.kind.Kind.TheVariants as kind;
 ghost use Rattle.values.specs.Seen.{of_fields, of_entries, of_items, of_members};
 
-use crate::val::{Entry, Field, ValNode, Val};
+use crate::val::{Entry, Field, Val, ValNode};
 use value_model::Key;
 
 const CAP: u64 = 1 << 63;
