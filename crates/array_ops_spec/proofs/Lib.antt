@@ -1,1 +1,3 @@
 mod Revoked
+pub mod Edits
+pub mod Guards

@@ -5,7 +5,8 @@ use Rattle.run_heap.specs.declared.value.Rv.{Rv}
 use Rattle.run_heap.specs.declared.fault.DraftFault.{DraftFault}
 use Rattle.run_heap.specs.declared.fault.DraftFault.TheVariants as fault
 use Rattle.run_heap.specs.declared.fault.DraftFault.TheVariants.{Revoked}
-use Rattle.run_heap.specs.Foreign.{Revokes, edit_revokes, first_cause, ok_other, read_revokes}
+use Rattle.run_heap.specs.Foreign.{Revokes}
+use Rattle.run_heap.proofs.Foreign.{edit_revokes, first_cause, ok_other, read_revokes}
 use Rattle.run_heap.specs.Heap.{Heap}
 use Rattle.run_heap.specs.Operations.{edited, is_list, is_undefined}
 use Rattle.array_ops_spec.specs.Calls.{answer_list, elements, on_list, read_list, read_shown, storing, with_items}

@@ -1,7 +1,6 @@
 -- What rules a call on a list out before its elements are looked at, and what is left of its row then.
-use Rattle.std.proofs.Common.{◌≡◌, ◌≢◌, ℕ, List, [], ◌∷◌, length, refl, ap, ◌∙◌, arith, Bool, true, false, not}
-use Rattle.std.specs.Prelude.{◌||◌, ◌==◌, Option, Some, None, option_map, Result, Ok, Err, if◌then◌else◌}
-use Rattle.std.specs.List.{list_any}
+use Rattle.std.proofs.Common.{◌≡◌, ℕ, List, [], ◌∷◌, length, refl, ap, ◌∙◌, arith, Bool, true, false, not}
+use Rattle.std.specs.Prelude.{◌==◌, Option, Some, None, option_map, Result, Ok, Err, if◌then◌else◌}
 use Rattle.value_model.specs.declared.kind.Kind.{Kind}
 use Rattle.value_model.specs.declared.kind.Kind.TheVariants as kind
 use Rattle.run_heap.specs.declared.value.Rv.{Rv}
@@ -10,9 +9,8 @@ use Rattle.run_heap.specs.declared.content.Content.{Content}
 use Rattle.run_heap.specs.declared.fault.DraftFault.{DraftFault}
 use Rattle.run_heap.specs.declared.fault.DraftFault.TheVariants as fault
 use Rattle.run_heap.specs.Heap.{Heap, shown, is_foreign}
-use Rattle.run_heap.specs.Operations.{unless, any_foreign, is_frozen, is_list, is_undefined, edited, edit_shown, then_write, then_read, rows_of, rewrite, table_of, kind_of}
-use Rattle.run_heap.specs.Sound.{IsObject, IsContainer, IsStored, AllStored, Owned, AllOwned}
-use Rattle.run_heap.specs.Laws.{left_false, right_false}
+use Rattle.run_heap.specs.Operations.{unless, any_foreign, is_frozen, is_list, edited, edit_shown, then_write, then_read, rewrite, table_of, kind_of}
+use Rattle.run_heap.specs.Sound.{IsObject, IsContainer, Owned}
 use Rattle.array_ops_spec.specs.Calls.{elements, items, on_list, with_items, read_list, read_shown}
 
 -- the elements of a container, as a list has them
@@ -63,59 +61,15 @@ pub record IsWritable (h : Heap) (of : Rv) (others : List Rv) (n : ℕ) : Type 0
   pub long : n ≡ length (table_of h of)
 
 -- ---- from tests in code to these facts
-not_true : (b : Bool) → not b ≡ false → b ≡ true
+pub not_true : (b : Bool) → not b ≡ false → b ≡ true
 not_true true h = refl
 not_true false h = absurd (cc)
 
-eq_of : (m n : ℕ) → (m == n) ≡ true → m ≡ n
+pub eq_of : (m n : ℕ) → (m == n) ≡ true → m ≡ n
 eq_of m n h = grind (arith, h)
 
-pub refused_foreign : (h : Heap) (of : Rv) (others : List Rv) → any_foreign h (of ∷ others) ≡ true → IsUnlisted h of others fault.Revoked
-refused_foreign h of others p = record { read = rw p refl; write = rw p refl }
-
-abbrev kind_in : Option Content → Option Kind
+abbrev pub kind_in : Option Content → Option Kind
 kind_in s = option_map (λ (c : Content). c.kind) s
-
-other_list : (k : Kind) → (let o : Option Kind = Some k in o) ≢ Some kind.List → is_list k ≡ false
-other_list kind.Obj p = refl
-other_list kind.List p = absurd (p refl)
-other_list kind.Map p = refl
-other_list kind.Set p = refl
-
-is_list_of : (k : Kind) → (let o : Option Kind = Some k in o) ≡ Some kind.List → is_list k ≡ true
-is_list_of kind.Obj p = absurd (cc)
-is_list_of kind.List p = refl
-is_list_of kind.Map p = absurd (cc)
-is_list_of kind.Set p = absurd (cc)
-
-refused_read : (s : Option Content) → kind_in s ≢ Some kind.List → then_read (read_shown (λ xs. xs)) s ≡ Err fault.TypeMismatch
-refused_read None other = refl
-refused_read (Some c) other = let l = other_list c.kind other in rw l refl
-
-refused_write : (of : Rv) (s : Option Content) → kind_in s ≢ Some kind.List → writable_shown of s ≡ Err fault.TypeMismatch
-refused_write of None other = refl
-refused_write of (Some c) other = let l = other_list c.kind other in rw l refl
-
-pub refused_kind : (h : Heap) (of : Rv) (others : List Rv) → any_foreign h (of ∷ others) ≡ false → kind_of h of ≢ Some kind.List → IsUnlisted h of others fault.TypeMismatch
-refused_kind h of others p other = record { read = rw p (refused_read (shown h of) other); write = rw p (refused_write of (shown h of) other) }
-
-list_read : (s : Option Content) → kind_in s ≡ Some kind.List → then_read (read_shown (λ xs. xs)) s ≡ Ok (elements (rows_of s))
-list_read None p = absurd (cc)
-list_read (Some c) p = let l = is_list_of c.kind p in rw l refl
-
-list_write : (of : Rv) (s : Option Content) → is_frozen of ≡ false → kind_in s ≡ Some kind.List → writable_shown of s ≡ Ok (elements (rows_of s))
-list_write of None f p = absurd (cc)
-list_write of (Some c) f p = let l = is_list_of c.kind p in rw (l, f) refl
-
-frozen_write : (of : Rv) (s : Option Content) → is_frozen of ≡ true → kind_in s ≡ Some kind.List → writable_shown of s ≡ Err fault.Frozen
-frozen_write of None f p = absurd (cc)
-frozen_write of (Some c) f p = let l = is_list_of c.kind p in rw (l, f) refl
-
-ours_first : (h : Heap) (of : Rv) (others : List Rv) → any_foreign h (of ∷ others) ≡ false → is_foreign h of ≡ false
-ours_first h of others p = left_false _ _ p
-
-ours_rest : (h : Heap) (of : Rv) (others : List Rv) → any_foreign h (of ∷ others) ≡ false → any_foreign h others ≡ false
-ours_rest h of others p = right_false _ _ p
 
 pub container : (h : Heap) (of : Rv) → Owned h of → is_foreign h of ≡ false → kind_of h of ≡ Some kind.List → IsContainer h of
 container h Undefined o f p = absurd (cc)
@@ -123,51 +77,11 @@ container h (Prim k) o f p = absurd (cc)
 container h (Obj r) o f p = let s = eq_of r.scope h.scope (not_true _ f) in (s, o s)
 container h (Frozen id) o f p = o
 
-object : (h : Heap) (of : Rv) → is_frozen of ≡ false → IsContainer h of → IsObject h of
+pub object : (h : Heap) (of : Rv) → is_frozen of ≡ false → IsContainer h of → IsObject h of
 object h Undefined f o = o
 object h (Prim k) f o = o
 object h (Obj r) f o = o
 object h (Frozen id) f o = absurd (cc)
-
-pub may_read : (h : Heap) (of : Rv) (others : List Rv) (n : ℕ) → Owned h of → IsListed h of others → n ≡ length (table_of h of) → IsReadable h of others n
-may_read h of others n o l long =
-    let ours = l.ours in
-    record {
-      found = rw ours (list_read (shown h of) l.list);
-      container = container h of o (ours_first h of others ours) l.list;
-      ours = ours;
-      long = long;
-    }
-
-pub may_write : (h : Heap) (of : Rv) (others : List Rv) (n : ℕ) → Owned h of → IsListed h of others → is_frozen of ≡ false → n ≡ length (table_of h of) → IsWritable h of others n
-may_write h of others n o l f long =
-    let ours = l.ours in
-    let there = container h of o (ours_first h of others ours) l.list in
-    record {
-      found = rw ours (list_write of (shown h of) f l.list);
-      object = object h of f there;
-      container = there;
-      list = l.list;
-      ours = ours;
-      long = long;
-    }
-
-pub refused_frozen : (h : Heap) (of : Rv) (others : List Rv) → IsListed h of others → is_frozen of ≡ true → writable h of others ≡ Err fault.Frozen
-refused_frozen h of others l f = let ours = l.ours in rw ours (frozen_write of (shown h of) f l.list)
-
--- ---- items that may be stored
-stored : (h : Heap) (v : Rv) → Owned h v → is_foreign h v ≡ false → is_undefined v ≡ false → IsStored h v
-stored h Undefined o f u = absurd (cc)
-stored h (Prim k) o f u = tt
-stored h (Obj r) o f u = let s = eq_of r.scope h.scope (not_true _ f) in (s, o s)
-stored h (Frozen id) o f u = o
-
-all_stored : (h : Heap) (vs : List Rv) → AllOwned h vs → any_foreign h vs ≡ false → list_any is_undefined vs ≡ false → AllStored h vs
-all_stored h [] o f u = tt
-all_stored h (v ∷ vs) o f u = (stored h v o.0 (left_false _ _ f) (left_false _ _ u), all_stored h vs o.1 (right_false _ _ f) (right_false _ _ u))
-
-pub items_stored : (h : Heap) (of : Rv) (vs : List Rv) → AllOwned h vs → any_foreign h (of ∷ vs) ≡ false → list_any is_undefined vs ≡ false → AllStored h vs
-items_stored h of vs o f u = all_stored h vs o (ours_rest h of vs f) u
 
 -- ---- what is left of a row that writes
 module _ {X : Type 0} (f : List Rv → Result (List Rv × X) DraftFault) (h : Heap) (of : Rv) where

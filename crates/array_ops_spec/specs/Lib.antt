@@ -1,4 +1,3 @@
 pub mod Calls
-pub mod Edits
 pub mod Examples
 pub mod Guards

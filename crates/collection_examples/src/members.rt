@@ -1,5 +1,5 @@
 //! The calls on Maps and Sets.
-#![tactic(auto, using(draft_runs::specs::Held::all_grow))]
+#![tactic(auto, using(draft_runs::proofs::Held::all_grow))]
 
 ghost use Rattle.run_heap.specs.Sound.{AllOwned};
 ghost use Rattle.draft_core.specs.Seen.{heap, Stands};

@@ -17,7 +17,7 @@ pub(crate) fn operand(run: &Run, alloc: Global, words: &[&str], i: usize) -> Res
 }
 
 /// The values of the words from the i-th on.
-#[tactic(auto, using(draft_runs::specs::Held::owned_more))]
+#[tactic(auto, using(draft_runs::proofs::Held::owned_more))]
 pub(crate) fn operands(
     run: &Run,
     alloc: Global,

@@ -21,7 +21,7 @@ pub(crate) fn show(run: &mut Run, alloc: Global, words: &[&str]) -> Result<Strin
 }
 
 /// What a value holds; a reference of another scope is `foreign`.
-#[tactic(auto, using(draft_runs::specs::Asked::container_is))]
+#[tactic(auto, using(draft_runs::proofs::Asked::container_is))]
 fn content(alloc: Global, scope: &mut Scope, store: &Store, of: &Rv) -> Result<String, WordFault>
     requires stands { Stands store.now scope.old }
     requires owned { Owned (heap store.now scope.old) of.now }

@@ -1,10 +1,6 @@
 pub mod Changed
 pub mod Ended
 pub mod Fresh
-pub mod Keeping
-pub mod Kept
-pub mod Lists
-pub mod Literals
 pub mod Marks
 pub mod Paths
 pub mod Plans

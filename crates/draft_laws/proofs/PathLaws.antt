@@ -12,7 +12,8 @@ use Rattle.value_model.specs.Places.{ascends_at}
 use Rattle.value_model.specs.Plain.{list_of}
 use Rattle.value_model.specs.Search.{left_true, right_true, less_from_test}
 use Rattle.value_model.specs.Well.{well, all_well, fits, all_fit}
-use Rattle.numbered.specs.Laws.{before_more, before_le, place_in_child, well_at}
+use Rattle.numbered.specs.Laws.{well_at}
+use Rattle.numbered.proofs.Laws.{before_more, before_le, place_in_child}
 use Rattle.numbered.specs.Store.{tree_at}
 use Rattle.numbered.specs.Tree.{Tree, Branches, prim, node, none, branch, plain, plains, number, containers, containers_in, place, children, before}
 use Rattle.node_store.specs.Nodes.{keys_in}
@@ -26,7 +27,7 @@ use Rattle.run_heap.specs.Operations.{frozen_at, original, slot_of, source, sour
 use Rattle.run_heap.specs.Places.{step, path_to, place_of}
 use Rattle.run_heap.specs.Sound.{IsSound, IsOpenedAs}
 use Rattle.run_heap.specs.Values.{same}
-use Rattle.draft_core.specs.Paths.{path_entry}
+use Rattle.draft_core.proofs.Paths.{path_entry}
 use Rattle.draft_laws.specs.Walks.{IsNode, IsPathOfDraft, under, child, then_subtree, subtree_at}
 
 -- ---- the entry in which a place lies

@@ -13,7 +13,7 @@ use Rattle.run_heap.specs.declared.fault.DraftFault.TheVariants as fault
 use Rattle.run_heap.specs.Heap.{Heap, rewritten, update}
 use Rattle.std.specs.FinMap.Entries.{find, put, find-put, find-where_key}
 use Rattle.std.specs.Ordering.{eq_by_cmp}
-use Rattle.value_model.specs.Tables.{is_eq-same, is_eq-other}
+use Rattle.value_model.proofs.Tables.{is_eq-same, is_eq-other}
 use Rattle.value_model.specs.Limits.{is_long_text, is_reserved_text, is_reserved_key}
 use Rattle.value_model.specs.declared.key.Key.TheVariants as key
 use Rattle.value_model.specs.declared.kind.Kind.TheVariants as kind

@@ -1,5 +1,5 @@
 -- What reads give, and what they leave.
-use Rattle.numbered.specs.Laws.{children_of, of_number}
+use Rattle.numbered.proofs.Laws.{children_of, of_number}
 use Rattle.std.proofs.Common.{◌≡◌, ℕ, zero, suc, pos, negsuc, ◌-◌, List, [], ◌∷◌, refl, ap, sym, ◌∙◌, subst, arith, true, false, not, Result, Ok, Err, cond}
 use Rattle.std.specs.Prelude.{◌||◌, nat_lt, Option, Some, None, if◌then◌else◌, ⊤, slice_get}
 use Rattle.std.specs.FinMap.Entries.{find}
@@ -14,7 +14,7 @@ use Rattle.numbered.specs.Store.{tree_at, IsNumber, IsStore, IsOf, AllOf}
 use Rattle.numbered.specs.Tree.{Tree, Branches, prim, node, none, branch, children}
 use Rattle.run_heap.specs.declared.value.Given.TheVariants as given
 use Rattle.node_store.specs.Nodes.{cell_of}
-use Rattle.node_store.specs.Tables.{cell_again}
+use Rattle.node_store.proofs.Tables.{cell_again}
 use Rattle.node_store.specs.declared.node.Cell.TheVariants as cell
 use Rattle.run_heap.specs.declared.value.Rv.{Rv}
 use Rattle.run_heap.specs.declared.value.Rv.TheVariants.{Undefined, Prim, Obj, Frozen}

@@ -1,11 +1,12 @@
 -- A store that was extended changes nothing.
 use Rattle.std.proofs.lemmas.Grind.{common_steps}
-use Rattle.draft_core.specs.Kept.{states_are}
+use Rattle.draft_core.proofs.Kept.{states_are}
 use Rattle.std.proofs.Common.{◌≡◌, ℕ, zero, suc, ◌≤◌, List, [], ◌∷◌, length, take, refl, ap, sym, ◌∙◌, subst, arith, ◌++◌}
 use Rattle.std.specs.BTreeMap.{get}
 use Rattle.std.specs.Ordering.{nat_cmp}
 use Rattle.value_model.specs.declared.key.Key.TheVariants as key
-use Rattle.numbered.specs.Laws.{Extends, extends_take}
+use Rattle.numbered.specs.Laws.{Extends}
+use Rattle.numbered.proofs.Laws.{extends_take}
 use Rattle.numbered.specs.Store.{IsStore, AreNext}
 use Rattle.numbered.specs.Tree.{Tree, prim}
 use Rattle.run_heap.specs.Sound.{IsSound}

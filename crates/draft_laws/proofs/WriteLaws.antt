@@ -13,7 +13,7 @@ use Rattle.run_heap.specs.declared.content.Content.{Content}
 use Rattle.run_heap.specs.declared.fault.DraftFault.{DraftFault}
 use Rattle.run_heap.specs.declared.fault.DraftFault.TheVariants as fault
 use Rattle.run_heap.specs.Heap.{Heap, shown, is_foreign, rewritten, update}
-use Rattle.run_heap.specs.Laws.{same_exact, same_tables_exact}
+use Rattle.run_heap.proofs.Laws.{same_exact, same_tables_exact}
 use Rattle.run_heap.specs.Operations.{unless, Rows, any_foreign, is_frozen, Edit, then_write, edit_shown, edited, is_marked, rows_of, source_in}
 use Rattle.run_heap.specs.Values.{same, same_tables}
 use Rattle.draft_laws.specs.Written.{IsWritten}

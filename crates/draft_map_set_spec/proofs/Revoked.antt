@@ -7,7 +7,8 @@ use Rattle.run_heap.specs.declared.value.Rv.TheVariants.{Undefined, Prim, Obj, F
 use Rattle.run_heap.specs.declared.fault.DraftFault.{DraftFault}
 use Rattle.run_heap.specs.declared.fault.DraftFault.TheVariants as fault
 use Rattle.run_heap.specs.declared.fault.DraftFault.TheVariants.{Revoked}
-use Rattle.run_heap.specs.Foreign.{Revokes, edit_revokes, first_cause, ok_other, read_revokes}
+use Rattle.run_heap.specs.Foreign.{Revokes}
+use Rattle.run_heap.proofs.Foreign.{edit_revokes, first_cause, ok_other, read_revokes}
 use Rattle.run_heap.specs.Heap.{Heap}
 use Rattle.run_heap.specs.Operations.{Rows, edited, read}
 use Rattle.draft_map_set_spec.specs.MapSet.{by_key, clearing, deleting, is_there, of_kind}

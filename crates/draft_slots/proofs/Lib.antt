@@ -1,0 +1,3 @@
+pub mod LookFacts
+pub mod Nodes
+pub mod Tables

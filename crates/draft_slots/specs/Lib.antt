@@ -1,4 +1,3 @@
-pub mod LookFacts
 pub mod Looks
 pub mod Nodes
 pub mod Peeks

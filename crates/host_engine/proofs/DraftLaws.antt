@@ -35,7 +35,7 @@ use Rattle.run_heap.specs.Operations.{Rows, is_frozen, is_marked, no_answer, put
 use Rattle.run_heap.specs.Sound.{IsObject}
 use Rattle.run_heap.specs.Values.{same, same_tables}
 use Rattle.draft_core.specs.declared.scope.Scope.{Scope}
-use Rattle.draft_core.specs.Kept.{container_ours, root_inside}
+use Rattle.draft_core.proofs.Kept.{container_ours, root_inside}
 use Rattle.draft_core.specs.Seen.{heap, Stands}
 use Rattle.host_engine.specs.Drafts.{plain_of, plain_row, plain_rows, entries_in, IsFlatObject, root_of, root_in, IsFlatScope}
 use Rattle.host_engine.specs.Edits.{Edits, MayStop, stop_of}

@@ -7,7 +7,7 @@ use Rattle.value_model.specs.declared.kind.Kind.TheVariants as kind
 use Rattle.value_model.specs.declared.op.Op.{Op}
 use Rattle.value_model.specs.declared.op.Op.TheVariants as op
 use Rattle.value_model.specs.Plain.{Plain}
-use Rattle.value_model.specs.Steps.{list_of_entries}
+use Rattle.value_model.proofs.Steps.{list_of_entries}
 use Rattle.patch_meaning.specs.Applying.{as_node, edited, in_object}
 use Rattle.host_machine.specs.Flat.{is_flat_path, is_flat_value, is_text_key}
 use Rattle.run_heap.specs.declared.content.Content.{Content}

@@ -20,8 +20,8 @@ use Rattle.run_heap.specs.declared.value.Rv.{Rv}
 use Rattle.run_heap.specs.Heap.{Heap, shown}
 use Rattle.run_heap.specs.Operations as run
 use Rattle.run_heap.specs.Sound.{IsContainer, IsSound}
-use Rattle.draft_core.specs.Keeping.{sorted_table}
-use Rattle.draft_core.specs.Kept.{container_owned}
+use Rattle.draft_core.proofs.Keeping.{sorted_table}
+use Rattle.draft_core.proofs.Kept.{container_owned}
 use Rattle.host_engine.specs.Drafts.{plain_cell, entries_in, IsFlatObject}
 use Rattle.host_engine.specs.Kept.{of_field}
 use Rattle.host_engine.specs.declared.fields.Field.{Field}

@@ -5,8 +5,9 @@ use Rattle.value_model.specs.declared.kind.Kind.TheVariants as kind
 use Rattle.value_model.specs.Limits.{state_limit}
 use Rattle.value_model.specs.Plain as plain_value
 use Rattle.value_model.specs.Plain.{Plain, Table as TableOf, Entries, entries, list_of, weight}
-use Rattle.value_model.specs.Steps.{list_of_entries, entries-list_of}
-use Rattle.numbered.specs.Laws.{plain_numbered, used_append, load_full_together, small_state, well_at}
+use Rattle.value_model.proofs.Steps.{list_of_entries, entries-list_of}
+use Rattle.numbered.specs.Laws.{well_at}
+use Rattle.numbered.proofs.Laws.{plain_numbered, used_append, load_full_together, small_state}
 use Rattle.numbered.specs.Loading.{places, numbered, numbered_in, post_order, post_orders, additions, loaded, load_full}
 use Rattle.numbered.specs.Store.{IsStore, tree_at, used as used_by, is_full}
 use Rattle.numbered.specs.Tree.{Tree, plain, number}

@@ -12,9 +12,10 @@ use Rattle.value_model.specs.Order.{key_cmp, key_exact}
 use Rattle.value_model.specs.Places.{ascends_at}
 use Rattle.value_model.specs.Plain.{list_of}
 use Rattle.value_model.specs.Search.{left_true, right_true, less_from_test, turned}
-use Rattle.value_model.specs.Tables.{is_eq-same}
+use Rattle.value_model.proofs.Tables.{is_eq-same}
 use Rattle.value_model.specs.Well.{well, all_fit, all_well}
-use Rattle.numbered.specs.Laws.{state_at, number_at}
+use Rattle.numbered.specs.Laws.{state_at}
+use Rattle.numbered.proofs.Laws.{number_at}
 use Rattle.numbered.specs.Store.{IsNumber, IsNext, IsStore, tree_at}
 use Rattle.numbered.specs.Tree.{Tree, Branches, prim, node, none, branch, plain, plains, children, number}
 use Rattle.node_store.specs.Nodes.{kind_of, keys_of, keys_in, cells_of, cells_in}

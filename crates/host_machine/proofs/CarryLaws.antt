@@ -17,11 +17,11 @@ use Rattle.value_model.specs.Order.{key_cmp}
 use Rattle.value_model.specs.Places.{without_key, at}
 use Rattle.value_model.specs.Plain.{Plain, Table, Entries, prim, node, none, entries, list_of, weight}
 use Rattle.value_model.specs.Search.{left_true, right_true}
-use Rattle.value_model.specs.Steps.{list_of_entries, entries-list_of}
-use Rattle.value_model.specs.Tables.{put_ascends, without_ascends}
+use Rattle.value_model.proofs.Steps.{list_of_entries, entries-list_of}
+use Rattle.value_model.proofs.Tables.{put_ascends, without_ascends}
 use Rattle.values.specs.declared.patch.Patch.{Patch}
 use Rattle.numbered.specs.Tree.{Tree, plain}
-use Rattle.numbered.specs.Laws.{plain_numbered}
+use Rattle.numbered.proofs.Laws.{plain_numbered}
 use Rattle.plain_values.specs.declared.command.Command.{Command}
 use Rattle.plain_values.specs.declared.command.Command.TheVariants as command
 use Rattle.plain_values.specs.declared.refusal.Refusal.TheVariants as refusal

@@ -8,8 +8,9 @@ use Rattle.value_model.specs.declared.key.Key.{Key}
 use Rattle.value_model.specs.declared.op.Op.TheVariants.{Add, Remove}
 use Rattle.value_model.specs.Order.{key_cmp, key_total, key_exact}
 use Rattle.value_model.specs.Plain.{Plain, Table}
-use Rattle.value_model.specs.Search.{left_true, right_true, less_from_test, none_below, turned}
-use Rattle.value_model.specs.Tables.{is_eq-same}
+use Rattle.value_model.specs.Search.{left_true, right_true, less_from_test, turned}
+use Rattle.value_model.proofs.Search.{none_below}
+use Rattle.value_model.proofs.Tables.{is_eq-same}
 use Rattle.values.specs.declared.patch.Patch.{Patch}
 use Rattle.host_machine.specs.Differences.{union, keys, patch, change, changes, differences}
 

@@ -12,7 +12,7 @@ use Rattle.value_model.specs.Plain.{Plain, Table, entries, weight}
 use Rattle.value_model.specs.Search.{left_true, right_true}
 use Rattle.numbered.specs.Tree.{Tree, prim, node, number}
 use Rattle.numbered.specs.Loading.{places, places_in, numbered, numbered_in, loaded}
-use Rattle.numbered.specs.Laws.{used_loaded}
+use Rattle.numbered.proofs.Laws.{used_loaded}
 use Rattle.numbered.specs.Store.{used as used_by}
 use Rattle.host_machine.specs.Flat.{is_integer, is_field_key, is_flat_table}
 use Rattle.host_machine.specs.Machine.{Machine, opened, number_if}

@@ -16,8 +16,8 @@ use Rattle.value_model.specs.Order.{key_cmp, key_total, key_exact}
 use Rattle.value_model.specs.Places.{without_key}
 use Rattle.value_model.specs.Plain.{Plain, Table, prim, node, entries, list_of}
 use Rattle.value_model.specs.Search.{left_true, right_true}
-use Rattle.value_model.specs.Steps.{list_of_entries, entries-list_of}
-use Rattle.value_model.specs.Tables.{is_eq-other, find_put_same, find_put_other, find_without_same, find_without_other, put_ascends, without_ascends}
+use Rattle.value_model.proofs.Steps.{list_of_entries, entries-list_of}
+use Rattle.value_model.proofs.Tables.{is_eq-other, find_put_same, find_put_other, find_without_same, find_without_other, put_ascends, without_ascends}
 use Rattle.values.specs.declared.patch.Patch.{Patch}
 use Rattle.patch_meaning.specs.Applying.{Fault, applied, applied_from, applied_at, fault_at, edited, in_object, as_node, patched, is_root_replace, has_root_replace}
 use Rattle.host_machine.specs.Carries.{IsSound}

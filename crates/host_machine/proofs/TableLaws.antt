@@ -9,7 +9,7 @@ use Rattle.value_model.specs.declared.key.Key.{Key}
 use Rattle.value_model.specs.Order.{key_cmp, key_total, key_exact}
 use Rattle.value_model.specs.Places.{without_key}
 use Rattle.value_model.specs.Plain.{Plain, Table}
-use Rattle.value_model.specs.Tables.{is_eq-same, find_without_same, find_without_other, without_ascends}
+use Rattle.value_model.proofs.Tables.{is_eq-same, find_without_same, find_without_other, without_ascends}
 use Rattle.host_machine.specs.Differences.{same, same_table}
 
 -- each value is a primitive, so that it is the same as itself

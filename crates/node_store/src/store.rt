@@ -68,7 +68,7 @@ impl Store {
     }
 
     /// How many nodes there are: the highest number that was given, at most 2^21 - 1.
-    #[tactic(auto, using(crate::specs::Grown::length_news))]
+    #[tactic(auto, using(crate::proofs::Grown::length_news))]
     pub fn len(&self) -> u64
         ensures value { result ≡ length self.now }
         ensures few { length self.now < 2 ^ 21 }

@@ -1,0 +1,4 @@
+pub mod Down
+pub mod Items
+pub mod Last
+pub mod Without

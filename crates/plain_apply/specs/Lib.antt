@@ -1,5 +1,3 @@
 pub mod Gives
 pub mod Last
-pub mod Without
-pub mod Items
 pub mod Down

@@ -104,7 +104,7 @@ fn inserted(
     }
 }
 
-#[tactic(auto, using(crate::specs::Items::insert_items))]
+#[tactic(auto, using(crate::proofs::Items::insert_items))]
 fn insert_item(
     alloc: Global,
     mut items: Vec<Val>,
@@ -137,7 +137,7 @@ fn written(
 }
 
 /// At the index behind the last the element is appended.
-#[tactic(auto, using(crate::specs::Items::set_items, crate::specs::Items::push_items))]
+#[tactic(auto, using(crate::proofs::Items::set_items, crate::proofs::Items::push_items))]
 fn write_item(
     alloc: Global,
     mut items: Vec<Val>,
@@ -156,7 +156,7 @@ fn write_item(
     Ok(items)
 }
 
-#[tactic(auto, using(crate::specs::Items::remove_items))]
+#[tactic(auto, using(crate::proofs::Items::remove_items))]
 fn taken_out(mut items: Vec<Val>, i: u64) -> Result<Vec<Val>, EditFault>
     ensures { GivesBy (λ vs. map of_item vs.items) result (spec.take_out (pos i) (map of_item items.items)) }
 {
@@ -167,7 +167,7 @@ fn taken_out(mut items: Vec<Val>, i: u64) -> Result<Vec<Val>, EditFault>
     Ok(items)
 }
 
-#[tactic(auto, using(crate::specs::Items::append_items))]
+#[tactic(auto, using(crate::proofs::Items::append_items))]
 fn appended(alloc: Global, mut items: Vec<Val>, value: &Val) -> Result<Vec<Val>, EditFault>
     ensures { GivesBy (λ vs. map of_item vs.items) result (Ok (map of_item items.items ++ spec.element value.now ∷ [])) }
 {
@@ -199,7 +199,7 @@ fn cut_at(items: Vec<Val>, key: &Key) -> Result<Vec<Val>, EditFault>
     }
 }
 
-#[tactic(auto, using(crate::specs::Items::take_items))]
+#[tactic(auto, using(crate::proofs::Items::take_items))]
 fn cut(mut items: Vec<Val>, i: u64) -> Result<Vec<Val>, EditFault>
     ensures { GivesBy (λ vs. map of_item vs.items) result (spec.cut_to (map of_item items.items) (prim (key_of.Int (pos i)))) }
 {

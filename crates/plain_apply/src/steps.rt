@@ -18,7 +18,7 @@ use value_checks::{entry_place, field_place};
 use values::{Entry, Field, Key, Op, PatchWhy, Text, Val, ValNode};
 
 /// The container with the patch at its step made.
-#[tactic(auto, using(value_model::specs::Steps::list_of_entries))]
+#[tactic(auto, using(value_model::proofs::Steps::list_of_entries))]
 fn edited(
     alloc: Global,
     here: Val,

@@ -6,5 +6,4 @@ pub mod Laws
 pub mod Operations
 pub mod Places
 pub mod Sound
-pub mod Tables
 pub mod Values

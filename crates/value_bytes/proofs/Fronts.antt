@@ -2,7 +2,7 @@
 use Rattle.std.proofs.Common.{◌≡◌, ℕ, ◌+◌, ◌-◌, ◌≤◌, List, ◌++◌, length, take, drop, Option, Some, None, sym, ap, ◌∙◌, arith}
 use Rattle.std.proofs.lemmas.List.{take_at, take-append-drop, length-append}
 use Rattle.std.proofs.lemmas.Option.{none-some}
-use Rattle.value_bytes_spec.specs.Fields.{some_is}
+use Rattle.value_bytes_spec.proofs.Fields.{some_is}
 use Rattle.value_bytes_spec.specs.Formats.{IsFormat}
 use Rattle.value_bytes_spec.specs.Numbers.{IsBytes}
 

@@ -8,10 +8,10 @@ use Rattle.value_model.specs.declared.key.Key.{Key}
 use Rattle.value_model.specs.declared.kind.Kind.{Kind}
 use Rattle.value_model.specs.Places.{ascends_at}
 use Rattle.value_model.specs.Plain.{Plain, node, entries, list_of, weights}
-use Rattle.value_model.specs.Steps.{list_of_entries}
+use Rattle.value_model.proofs.Steps.{list_of_entries}
 use Rattle.value_model.specs.Well.{all_fit, well, all_well}
 use Rattle.value_bytes_spec.specs.Spelling.{kind_byte, value_bytes, entries_bytes}
-use Rattle.value_bytes_spec.specs.Values.{count_le_weights}
+use Rattle.value_bytes_spec.proofs.Values.{count_le_weights}
 
 module _ {X : Type 0} (f : X → Key × Plain) (kind : Kind) (xs : List X) where
   listed : length (list_of (entries (map f xs))) ≡ length xs

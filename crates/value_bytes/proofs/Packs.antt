@@ -3,7 +3,7 @@ use Rattle.std.proofs.Common.{◌≡◌, ℕ, List, [], Some, None, sym, ap, sub
 use Rattle.std.proofs.lemmas.List.{append-nil}
 use Rattle.std.proofs.lemmas.Option.{none-some}
 use Rattle.values.specs.declared.patch.Pair.{Pair}
-use Rattle.value_bytes_spec.specs.Lists.{pair_again}
+use Rattle.value_bytes_spec.proofs.Lists.{pair_again}
 use Rattle.value_bytes_spec.specs.Reading.{pair_at}
 use Rattle.value_bytes_spec.specs.Spelling.{pair_bytes, IsPair}
 use Rattle.value_bytes.specs.Packing.{pair_read, pair_of, IsPacked}

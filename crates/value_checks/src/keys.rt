@@ -19,7 +19,7 @@ pub(crate) struct KeyFaults {
 
 /// What is wrong with the keys of a value. A caller learns besides that each of its levels is in order.
 #[cycle(keys)]
-#[tactic(auto, using(value_model::specs::Steps::list_of_entries, values::specs::Fits::fields_fit, values::specs::Fits::items_fit, values::specs::Fits::entries_fit, values::specs::Fits::members_fit))]
+#[tactic(auto, using(value_model::proofs::Steps::list_of_entries, values::proofs::Fits::fields_fit, values::proofs::Fits::items_fit, values::proofs::Fits::entries_fit, values::proofs::Fits::members_fit))]
 pub(crate) fn key_faults(v: &Val) -> KeyFaults
     ensures long { result.long ≡ spec.has_long_key v.now }
     ensures reserved { result.reserved ≡ spec.has_reserved_key v.now }

@@ -16,7 +16,7 @@ use Rattle.value_model.specs.Limits.{value_limit}
 use Rattle.value_model.specs.Order.{key_cmp, key_total, key_exact, letters}
 use Rattle.value_model.specs.Plain as plain
 use Rattle.value_model.specs.Plain.{Plain, Entries, prim, node, none, entry, entries, list_of, deepest, weight}
-use Rattle.value_model.specs.Steps.{entries-list_of}
+use Rattle.value_model.proofs.Steps.{entries-list_of}
 use Rattle.value_model.specs.Well.{all_fit, fits}
 use Rattle.value_model.specs.Search.{left_true, right_true}
 use Rattle.value_json_spec.specs.Answers.{and_then, result_map}

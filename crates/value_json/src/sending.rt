@@ -53,7 +53,7 @@ fn send_integer<S: Serializer>(n: i64, out: &mut S) -> Result<(), S::Error>
 
 /// Sends a value. A caller learns besides that it is sound.
 #[cycle(send)]
-#[tactic(auto, using(value_model::specs::Steps::list_of_entries, values::specs::Fits::fields_fit, values::specs::Fits::items_fit, values::specs::Fits::entries_fit, values::specs::Fits::members_fit))]
+#[tactic(auto, using(value_model::proofs::Steps::list_of_entries, values::proofs::Fits::fields_fit, values::proofs::Fits::items_fit, values::proofs::Fits::entries_fit, values::proofs::Fits::members_fit))]
 fn send<S: Serializer>(v: &Val, out: &mut S) -> Result<(), S::Error>
     ensures json { OnOk result (SendsValue (val_data v.now) (S.written out.old) (S.written out.new)) }
     ensures sound { OnOk result (IsTrue (is_sound v.now)) }

@@ -5,6 +5,4 @@ pub mod Places
 pub mod Plain
 pub mod Safe
 pub mod Search
-pub mod Steps
-pub mod Tables
 pub mod Well

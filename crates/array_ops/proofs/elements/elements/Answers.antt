@@ -3,7 +3,7 @@ use Rattle.run_heap.specs.declared.value.Rv.{Rv}
 use Rattle.run_heap.specs.Operations.{table_of}
 use Rattle.run_heap.specs.Sound.{AllStored}
 use Rattle.draft_core.specs.Seen.{heap}
-use Rattle.array_ops_spec.specs.Edits.{one_more, stored_more, value_element}
+use Rattle.array_ops_spec.proofs.Edits.{one_more, stored_more, value_element}
 use Rattle.array_ops_spec.specs.Guards.{elements_of}
 use Rattle.array_ops.proofs.elements.elements.Goals as goal
 

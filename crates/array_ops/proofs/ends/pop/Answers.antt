@@ -2,9 +2,9 @@ use Rattle.std.proofs.Common.{[]}
 use Rattle.run_heap.specs.Operations.{table_of}
 use Rattle.draft_core.specs.Seen.{heap}
 use Rattle.array_ops_spec.specs.Calls.{popped}
-use Rattle.array_ops_spec.specs.Edits.{long_elements, popped_at, row_spliced}
+use Rattle.array_ops_spec.proofs.Edits.{long_elements, popped_at, row_spliced}
 use Rattle.array_ops_spec.specs.Guards.{elements_of}
-use Rattle.array_ops_spec.specs.Edits.{fits_on}
+use Rattle.array_ops_spec.proofs.Edits.{fits_on}
 use Rattle.array_ops.proofs.ends.pop.Goals as goal
 
 pub returns-clause-done : goal.returns-clause-done

@@ -1,7 +1,8 @@
 use Rattle.std.proofs.Common.{◌∙◌, ◌+◌, length, sym}
 use Rattle.array_ops_spec.specs.Calls.{unshifted}
-use Rattle.array_ops_spec.specs.Edits.{long_elements, unshifted_at, row_spliced}
-use Rattle.array_ops_spec.specs.Guards.{elements_of, items_stored}
+use Rattle.array_ops_spec.proofs.Edits.{long_elements, unshifted_at, row_spliced}
+use Rattle.array_ops_spec.specs.Guards.{elements_of}
+use Rattle.array_ops_spec.proofs.Guards.{items_stored}
 use Rattle.draft_core.specs.Seen.{heap}
 use Rattle.run_heap.specs.Operations.{table_of}
 use Rattle.array_ops.proofs.ends.unshift.Goals as goal

@@ -2,7 +2,7 @@ use Rattle.std.proofs.Common.{◌∙◌, [], ap, reverse}
 use Rattle.run_heap.specs.Operations.{table_of}
 use Rattle.draft_core.specs.Seen.{heap}
 use Rattle.array_ops_spec.specs.Calls.{turned}
-use Rattle.array_ops_spec.specs.Edits.{long_elements, range_all, row_spliced, stored_reverse, turned_at}
+use Rattle.array_ops_spec.proofs.Edits.{long_elements, range_all, row_spliced, stored_reverse, turned_at}
 use Rattle.array_ops_spec.specs.Guards.{elements_of}
 use Rattle.array_ops.proofs.ranges.reverse.Goals as goal
 

@@ -4,7 +4,7 @@ use Rattle.std.proofs.lemmas.Int.{to_z-of_z}
 use Rattle.std.specs.Int.{w64}
 use Rattle.draft_core.specs.Seen.{heap}
 use Rattle.array_ops_spec.specs.Calls.{cut_to}
-use Rattle.array_ops_spec.specs.Edits.{long_elements, cut_ok, row_spliced}
+use Rattle.array_ops_spec.proofs.Edits.{long_elements, cut_ok, row_spliced}
 use Rattle.array_ops_spec.specs.Guards.{elements_of}
 use Rattle.array_ops.proofs.ranges.set_length.Goals as goal
 

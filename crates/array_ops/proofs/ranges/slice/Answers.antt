@@ -6,7 +6,7 @@ use Rattle.run_heap.specs.Heap.{Heap}
 use Rattle.std.proofs.lemmas.Int.{to_z-of_z}
 use Rattle.std.specs.Int.{w64}
 use Rattle.draft_core.specs.Seen.{heap}
-use Rattle.array_ops_spec.specs.Edits.{slice_row}
+use Rattle.array_ops_spec.proofs.Edits.{slice_row}
 use Rattle.array_ops.proofs.ranges.slice.Goals as goal
 
 pub returns-clause-done : goal.returns-clause-done

@@ -6,8 +6,8 @@ use Rattle.run_heap.specs.Heap.{Heap}
 use Rattle.std.proofs.lemmas.Int.{to_z-of_z}
 use Rattle.std.specs.Int.{w64}
 use Rattle.draft_core.specs.Seen.{heap}
-use Rattle.array_ops_spec.specs.Edits.{splice_row}
-use Rattle.array_ops_spec.specs.Guards.{items_stored}
+use Rattle.array_ops_spec.proofs.Edits.{splice_row}
+use Rattle.array_ops_spec.proofs.Guards.{items_stored}
 use Rattle.array_ops.proofs.ranges.splice.Goals as goal
 
 pub splice_with-requires-clause-stored : goal.splice_with-requires-clause-stored

@@ -1,6 +1,6 @@
 use Rattle.run_heap.specs.Operations.{table_of}
 use Rattle.draft_core.specs.Seen.{heap}
-use Rattle.array_ops_spec.specs.Edits.{search_found, search_on}
+use Rattle.array_ops_spec.proofs.Edits.{search_found, search_on}
 use Rattle.array_ops.proofs.search.find.Goals as goal
 
 pub returns-then-same_at-clause-index : goal.returns-then-same_at-clause-index

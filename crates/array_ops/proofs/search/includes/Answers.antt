@@ -2,7 +2,7 @@ use Rattle.std.proofs.Common.{◌∙◌, ap, sym, Bool}
 use Rattle.std.specs.Prelude.{Ok, Result}
 use Rattle.run_heap.specs.declared.fault.DraftFault.{DraftFault}
 use Rattle.draft_core.specs.Seen.{heap}
-use Rattle.array_ops_spec.specs.Edits.{includes_row}
+use Rattle.array_ops_spec.proofs.Edits.{includes_row}
 use Rattle.array_ops.proofs.search.includes.Goals as goal
 
 pub returns-clause-answer : goal.returns-clause-answer

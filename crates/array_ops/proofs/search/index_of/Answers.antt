@@ -1,7 +1,7 @@
 use Rattle.std.proofs.Common.{◌∙◌, sym}
 use Rattle.std.specs.Prelude.{None}
 use Rattle.draft_core.specs.Seen.{heap}
-use Rattle.array_ops_spec.specs.Edits.{index_row}
+use Rattle.array_ops_spec.proofs.Edits.{index_row}
 use Rattle.array_ops.proofs.search.index_of.Goals as goal
 
 pub returns-in-None-clause-answer : goal.returns-in-None-clause-answer

@@ -2,7 +2,7 @@ use Rattle.std.proofs.Common.{List, [], ◌∷◌, length}
 use Rattle.std.specs.List.{list_any, position}
 use Rattle.run_heap.specs.declared.value.Rv.{Rv}
 use Rattle.run_heap.specs.declared.fault.DraftFault.TheVariants as fault
-use Rattle.run_heap.specs.Foreign.{first_cause, list_revokes, ok_other}
+use Rattle.run_heap.proofs.Foreign.{first_cause, list_revokes, ok_other}
 use Rattle.run_heap.specs.Operations.{edited}
 use Rattle.run_heap.specs.Values.{same}
 use Rattle.array_ops_spec.specs.Calls.{cut_to, index_or, is_past, items, on_list, popped, pushed, read_list, shifted, sliced, spliced_at, turned, unshifted}

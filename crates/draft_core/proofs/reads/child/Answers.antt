@@ -4,7 +4,7 @@ use Rattle.numbered.specs.Store.{tree_at}
 use Rattle.numbered.specs.Tree.{Tree, branches_of}
 use Rattle.node_store.specs.Nodes.{cell_tree}
 use Rattle.node_store.specs.declared.node.Cell.{Cell}
-use Rattle.draft_core.specs.Paths.{no_places}
+use Rattle.draft_core.proofs.Paths.{no_places}
 use Rattle.draft_core.proofs.reads.child.Goals as goal
 
 pub unreachable-requires : goal.unreachable-requires

@@ -1,7 +1,7 @@
 use Rattle.std.proofs.Common.{◌∙◌, arith}
 use Rattle.numbered.specs.Store.{tree_at}
 use Rattle.run_heap.specs.Places.{path_to as path_of}
-use Rattle.draft_core.specs.Paths.{path_further, path_ends, inside_child}
+use Rattle.draft_core.proofs.Paths.{path_further, path_ends, inside_child}
 use Rattle.draft_core.proofs.reads.path_to.Goals as goal
 
 pub loop-left-preserved : goal.loop-left-preserved

@@ -6,7 +6,7 @@ use Rattle.value_model.specs.declared.key.Key.TheVariants.{Int}
 use Rattle.value_model.specs.declared.kind.Kind.{Kind}
 use Rattle.value_model.specs.Safe.{IsSafe}
 use Rattle.run_heap.specs.Places.{step}
-use Rattle.draft_core.specs.Paths.{few_entries, safe_index}
+use Rattle.draft_core.proofs.Paths.{few_entries, safe_index}
 use Rattle.draft_core.proofs.reads.step.Goals as goal
 
 pub overflow_cast-i : goal.overflow_cast-i

@@ -1,4 +1,4 @@
-use Rattle.numbered.specs.Laws.{extends_append}
+use Rattle.numbered.proofs.Laws.{extends_append}
 use Rattle.draft_laws.proofs.StoreLaws.{heap_extended, stands_extended}
 use Rattle.draft_laws.proofs.scopes.law_extended_store.Goals as goal
 

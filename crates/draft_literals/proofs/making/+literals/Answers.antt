@@ -3,10 +3,10 @@ use Rattle.value_model.specs.declared.key.Key.TheVariants as key
 use Rattle.value_model.specs.declared.kind.Kind.TheVariants as kind
 use Rattle.std.specs.FinMap.Entries.{is_sorted}
 use Rattle.value_model.specs.Order.{key_cmp}
-use Rattle.value_model.specs.Steps.{list_of_entries}
-use Rattle.values.specs.Fits.{fields_fit, items_fit, entries_fit}
+use Rattle.value_model.proofs.Steps.{list_of_entries}
+use Rattle.values.proofs.Fits.{fields_fit, items_fit, entries_fit}
 use Rattle.values.specs.Seen.{of_field, of_item, of_entry, of_fields, of_items, of_entries}
-use Rattle.draft_literals.specs.Making.{next_is, none_left, making_room, making_next, made_all, values_fall, container_ok, container_room}
+use Rattle.draft_literals.proofs.Making.{next_is, none_left, making_room, making_next, made_all, values_fall, container_ok, container_room}
 use Rattle.draft_literals.proofs.making.+literals.Goals as goal
 
 -- ---- literal_fields

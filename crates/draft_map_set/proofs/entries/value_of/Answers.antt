@@ -5,8 +5,8 @@ use Rattle.value_model.specs.Order.{key_cmp}
 use Rattle.run_heap.specs.declared.value.Rv.{Rv}
 use Rattle.run_heap.specs.Operations as spec
 use Rattle.run_heap.specs.Operations.{or_undefined, table_of}
-use Rattle.draft_slots.specs.LookFacts.{position_below, member_found, member_absent}
-use Rattle.draft_core.specs.Kept.{ok_more}
+use Rattle.draft_slots.proofs.LookFacts.{position_below, member_found, member_absent}
+use Rattle.draft_core.proofs.Kept.{ok_more}
 use Rattle.draft_core.specs.Seen.{heap}
 use Rattle.draft_map_set.proofs.entries.value_of.Goals as goal
 

@@ -1,4 +1,4 @@
-use Rattle.draft_slots.specs.LookFacts.{content_made}
+use Rattle.draft_slots.proofs.LookFacts.{content_made}
 use Rattle.draft_slots.proofs.nodes.node_content.Goals as goal
 
 pub returns : goal.returns

@@ -8,8 +8,9 @@ use Rattle.run_heap.specs.declared.value.Rv.TheVariants as rv
 use Rattle.run_heap.specs.Heap.{after}
 use Rattle.run_heap.specs.Operations.{value_at}
 use Rattle.run_heap.specs.Values.{same}
-use Rattle.draft_slots.specs.LookFacts.{fits_before}
-use Rattle.draft_slots.specs.Nodes.{value_given, given_cell, given_node, node_table, some_is}
+use Rattle.draft_slots.proofs.LookFacts.{fits_before}
+use Rattle.draft_slots.specs.Nodes.{given_cell, given_node, node_table}
+use Rattle.draft_slots.proofs.Nodes.{value_given, some_is}
 use Rattle.draft_slots.proofs.nodes.node_same.Goals as goal
 
 pub give-requires : goal.give-requires

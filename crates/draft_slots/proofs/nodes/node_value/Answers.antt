@@ -7,8 +7,9 @@ use Rattle.node_store.specs.declared.node.Cell.{Cell}
 use Rattle.run_heap.specs.declared.value.Rv.{Rv}
 use Rattle.run_heap.specs.declared.value.Rv.TheVariants as rv
 use Rattle.run_heap.specs.Heap.{after}
-use Rattle.draft_slots.specs.LookFacts.{fits_before}
-use Rattle.draft_slots.specs.Nodes.{value_given, given_cell, given_node}
+use Rattle.draft_slots.proofs.LookFacts.{fits_before}
+use Rattle.draft_slots.specs.Nodes.{given_cell, given_node}
+use Rattle.draft_slots.proofs.Nodes.{value_given}
 use Rattle.draft_slots.proofs.nodes.node_value.Goals as goal
 
 pub give-requires : goal.give-requires

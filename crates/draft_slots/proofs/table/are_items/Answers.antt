@@ -1,4 +1,4 @@
-use Rattle.draft_slots.specs.Tables.{items_length}
+use Rattle.draft_slots.proofs.Tables.{items_length}
 use Rattle.draft_slots.proofs.table.are_items.Goals as goal
 
 pub returns-then-entries-items : goal.returns-then-entries-items

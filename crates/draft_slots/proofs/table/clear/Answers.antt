@@ -1,6 +1,6 @@
 use Rattle.std.proofs.Common.{ap, ◌∙◌, not, length}
 use Rattle.std.specs.Prelude.{◌==◌, ℕ}
-use Rattle.draft_slots.specs.Tables.{cleared_differs}
+use Rattle.draft_slots.proofs.Tables.{cleared_differs}
 use Rattle.draft_slots.proofs.table.clear.Goals as goal
 
 pub returns-clause-differs : goal.returns-clause-differs

@@ -4,7 +4,8 @@ use Rattle.value_model.specs.declared.key.Key.{Key}
 use Rattle.value_model.specs.Order.{key_cmp}
 use Rattle.value_model.specs.Search.{searched}
 use Rattle.run_heap.specs.declared.value.Rv.{Rv}
-use Rattle.draft_slots.specs.Tables.{keyed, sorted_keyed}
+use Rattle.draft_slots.specs.Tables.{keyed}
+use Rattle.draft_slots.proofs.Tables.{sorted_keyed}
 use Rattle.draft_slots.proofs.table.place.Goals as goal
 
 pub returns : goal.returns

@@ -2,7 +2,7 @@ use Rattle.std.proofs.Common.{sym, Ok, Err}
 use Rattle.value_model.specs.declared.key.Key.{Key}
 use Rattle.run_heap.specs.declared.value.Rv.{Rv}
 use Rattle.run_heap.specs.declared.value.Rv.TheVariants.{Undefined}
-use Rattle.draft_slots.specs.Tables.{position_at}
+use Rattle.draft_slots.proofs.Tables.{position_at}
 use Rattle.draft_slots.proofs.table.position.Goals as goal
 
 pub returns-in-Ok : goal.returns-in-Ok

@@ -1,5 +1,5 @@
 use Rattle.std.proofs.Common.{◌≡◌, ap, ◌∙◌, length, arith}
-use Rattle.draft_slots.specs.Tables.{appended, element_key}
+use Rattle.draft_slots.proofs.Tables.{appended, element_key}
 use Rattle.draft_slots.proofs.table.set_element.Goals as goal
 
 pub returns-then-at-len : goal.returns-then-at-len

@@ -2,7 +2,7 @@ use Rattle.std.proofs.Common.{◌≡◌, ap, ◌∙◌, not, get_or}
 use Rattle.value_model.specs.declared.key.Key.{Key}
 use Rattle.run_heap.specs.declared.value.Rv.{Rv}
 use Rattle.run_heap.specs.Values.{same}
-use Rattle.draft_slots.specs.Tables.{set_differs}
+use Rattle.draft_slots.proofs.Tables.{set_differs}
 use Rattle.draft_slots.proofs.table.set_entry.Goals as goal
 
 pub returns-clause-differs : goal.returns-clause-differs

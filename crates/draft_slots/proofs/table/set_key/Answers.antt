@@ -1,4 +1,4 @@
-use Rattle.draft_slots.specs.Tables.{set_leaves, insert_leaves, place_key}
+use Rattle.draft_slots.proofs.Tables.{set_leaves, insert_leaves, place_key}
 use Rattle.draft_slots.proofs.table.set_key.Goals as goal
 
 pub set_entry-requires-clause-same_key : goal.set_entry-requires-clause-same_key

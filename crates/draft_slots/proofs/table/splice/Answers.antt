@@ -7,7 +7,7 @@ use Rattle.std.specs.List.{splice}
 use Rattle.run_heap.specs.Operations.{item}
 use Rattle.run_heap.specs.Operations.{Rows}
 use Rattle.run_heap.specs.Values.{same_tables}
-use Rattle.draft_slots.specs.Tables.{spliced_differs}
+use Rattle.draft_slots.proofs.Tables.{spliced_differs}
 use Rattle.draft_slots.proofs.table.splice.Goals as goal
 
 pub returns : goal.returns

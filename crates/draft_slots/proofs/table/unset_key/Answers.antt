@@ -2,7 +2,7 @@ use Rattle.std.proofs.Common.{◌∙◌, sym}
 use Rattle.value_model.specs.declared.key.Key.{Key}
 use Rattle.run_heap.specs.declared.value.Rv.{Rv}
 use Rattle.run_heap.specs.declared.value.Rv.TheVariants.{Undefined}
-use Rattle.draft_slots.specs.Tables.{remove_in_place, removed_differs, absent_leaves, absent_same_tables}
+use Rattle.draft_slots.proofs.Tables.{remove_in_place, removed_differs, absent_leaves, absent_same_tables}
 use Rattle.draft_slots.proofs.table.unset_key.Goals as goal
 
 pub returns-in-Ok-clause-table : goal.returns-in-Ok-clause-table

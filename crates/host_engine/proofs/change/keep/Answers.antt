@@ -1,6 +1,6 @@
 use Rattle.std.proofs.Common.{◌∙◌, ap, ◌+◌, length}
 use Rattle.value_model.specs.Limits.{state_limit}
-use Rattle.numbered.specs.Laws.{plain_numbered}
+use Rattle.numbered.proofs.Laws.{plain_numbered}
 use Rattle.numbered.specs.Tree.{Tree, plain}
 use Rattle.host_engine.specs.Drafts.{plain_rows}
 use Rattle.host_engine.specs.Kept.{state_of}

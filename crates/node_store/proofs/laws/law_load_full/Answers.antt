@@ -1,4 +1,4 @@
-use Rattle.numbered.specs.Laws.{load_full_together, used_loaded}
+use Rattle.numbered.proofs.Laws.{load_full_together, used_loaded}
 use Rattle.node_store.proofs.laws.law_load_full.Goals as goal
 
 pub returns-clause-full : goal.returns-clause-full

@@ -1,4 +1,4 @@
-use Rattle.numbered.specs.Laws.{plain_numbered, numbers_follow}
+use Rattle.numbered.proofs.Laws.{plain_numbered, numbers_follow}
 use Rattle.node_store.proofs.laws.law_loading.Goals as goal
 
 pub returns-clause-value : goal.returns-clause-value

@@ -1,4 +1,4 @@
-use Rattle.numbered.specs.Laws.{numbered_state, of_number}
+use Rattle.numbered.proofs.Laws.{numbered_state, of_number}
 use Rattle.numbered.specs.Store.{tree_at}
 use Rattle.node_store.proofs.laws.law_numbered_states.Goals as goal
 

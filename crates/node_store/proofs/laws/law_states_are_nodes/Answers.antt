@@ -1,4 +1,4 @@
-use Rattle.node_store.specs.Again.{node_again}
+use Rattle.node_store.proofs.Again.{node_again}
 use Rattle.node_store.proofs.laws.law_states_are_nodes.Goals as goal
 
 pub returns : goal.returns

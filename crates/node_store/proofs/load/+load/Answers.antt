@@ -7,14 +7,15 @@ use Rattle.value_model.specs.declared.key.Key.{Key}
 use Rattle.value_model.specs.declared.key.Key.TheVariants as key
 use Rattle.value_model.specs.declared.kind.Kind.TheVariants as kind
 use Rattle.value_model.specs.Plain.{Plain, values_in}
-use Rattle.value_model.specs.Steps.{list_of_entries}
-use Rattle.values.specs.Fits.{fields_fit}
+use Rattle.value_model.proofs.Steps.{list_of_entries}
+use Rattle.values.proofs.Fits.{fields_fit}
 use Rattle.values.specs.Seen.{of_field, of_entry, of_item, of_fields, of_entries, of_items}
 use Rattle.values.specs.declared.val.Field.{Field}
 use Rattle.values.specs.declared.val.Entry.{Entry}
-use Rattle.node_store.specs.Loads.{IsLoading, entries_step, loading_step, loading_refused, loading_end, entries_end, list_push, for_memory, refused_in, root_accepted, root_loaded, root_refused, not_full, obj_rows, map_rows, obj_node, map_node, all_within, full_in}
+use Rattle.node_store.specs.Loads.{IsLoading, full_in}
+use Rattle.node_store.proofs.Loads.{entries_step, loading_step, loading_refused, loading_end, entries_end, list_push, for_memory, refused_in, root_accepted, root_loaded, root_refused, not_full, obj_rows, map_rows, obj_node, map_node, all_within}
 use Rattle.node_store.specs.Nodes.{rows, CellsBelow}
-use Rattle.node_store.specs.Tables.{cells_of_rows}
+use Rattle.node_store.proofs.Tables.{cells_of_rows}
 use Rattle.node_store.proofs.load.+load.Goals as goal
 
 -- ---- load_object

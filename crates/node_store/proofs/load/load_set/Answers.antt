@@ -4,7 +4,7 @@ use Rattle.std.proofs.lemmas.Result.{err_from_is_err_and}
 use Rattle.value_model.specs.declared.kind.Kind.TheVariants as kind
 use Rattle.values.specs.Seen.{of_members}
 use Rattle.node_store.specs.declared.node.Cell.TheVariants as cell
-use Rattle.node_store.specs.Loads.{root_accepted, root_loaded, root_refused, not_full, set_below, set_loaded, set_node}
+use Rattle.node_store.proofs.Loads.{root_accepted, root_loaded, root_refused, not_full, set_below, set_loaded, set_node}
 use Rattle.node_store.specs.Nodes.{rows, is_node, CellsBelow}
 use Rattle.node_store.proofs.load.load_set.Goals as goal
 

@@ -1,4 +1,4 @@
-use Rattle.node_store.specs.Shown.{key_found}
+use Rattle.node_store.proofs.Shown.{key_found}
 use Rattle.node_store.proofs.search.find_key.Goals as goal
 
 pub returns : goal.returns

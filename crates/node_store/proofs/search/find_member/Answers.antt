@@ -1,4 +1,4 @@
-use Rattle.node_store.specs.Shown.{member_found}
+use Rattle.node_store.proofs.Shown.{member_found}
 use Rattle.node_store.proofs.search.find_member.Goals as goal
 
 pub returns : goal.returns

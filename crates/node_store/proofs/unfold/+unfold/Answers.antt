@@ -6,7 +6,8 @@ use Rattle.numbered.specs.Store.{tree_at}
 use Rattle.values.specs.Seen.{of_field, of_entry}
 use Rattle.node_store.specs.Nodes.{key_of}
 use Rattle.node_store.specs.Shown.{HasMembers}
-use Rattle.node_store.specs.Unfolds.{shown, cell_value, obj_value, map_value, list_value, set_value, obj_order, map_order, set_order}
+use Rattle.node_store.specs.Unfolds.{shown, cell_value}
+use Rattle.node_store.proofs.Unfolds.{obj_value, map_value, list_value, set_value, obj_order, map_order, set_order}
 use Rattle.node_store.proofs.unfold.+unfold.Goals as goal
 
 pub unfold_node-invariant_of-result : goal.unfold_node-invariant_of-result

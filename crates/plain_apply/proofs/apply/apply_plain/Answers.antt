@@ -2,7 +2,7 @@ use Rattle.std.proofs.Common.{List, Option, ap, ◌∙◌, drop, ◌+◌}
 use Rattle.patch_meaning.specs.Applying.{applied_from, from_root}
 use Rattle.value_model.specs.Plain.{Plain}
 use Rattle.values.specs.declared.patch.Patch.{Patch}
-use Rattle.plain_apply.specs.Last.{none_applied, some_applied}
+use Rattle.plain_apply.proofs.Last.{none_applied, some_applied}
 use Rattle.plain_apply.proofs.apply.apply_plain.Goals as goal
 
 pub returns-in_ok-copy-in-None : goal.returns-in_ok-copy-in-None

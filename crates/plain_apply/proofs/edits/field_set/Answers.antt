@@ -1,5 +1,5 @@
 use Rattle.std.proofs.Common.{map}
-use Rattle.value_model.specs.Tables.{put_ascends}
+use Rattle.value_model.proofs.Tables.{put_ascends}
 use Rattle.value_model.specs.declared.key.Key.TheVariants as key
 use Rattle.values.specs.Seen.{of_field}
 use Rattle.plain_apply.proofs.edits.field_set.Goals as goal

@@ -1,6 +1,6 @@
 use Rattle.std.proofs.Common.{map}
 use Rattle.value_model.specs.Plain.{prim}
-use Rattle.value_model.specs.Tables.{put_ascends}
+use Rattle.value_model.proofs.Tables.{put_ascends}
 use Rattle.values.specs.Seen.{of_member}
 use Rattle.plain_apply.proofs.edits.member_added.Goals as goal
 

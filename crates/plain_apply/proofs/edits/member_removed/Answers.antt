@@ -1,5 +1,5 @@
 use Rattle.std.proofs.Common.{map}
-use Rattle.value_model.specs.Tables.{without_ascends}
+use Rattle.value_model.proofs.Tables.{without_ascends}
 use Rattle.values.specs.Seen.{of_member}
 use Rattle.plain_apply.proofs.edits.member_removed.Goals as goal
 

@@ -1,7 +1,7 @@
 use Rattle.std.proofs.Common.{◌≡◌, length, false, arith}
 use Rattle.std.proofs.lemmas.Bool.Decides.{nat_tests}
 use Rattle.std.specs.Prelude.{nat_lt}
-use Rattle.plain_apply.specs.Items.{length_items, take_items}
+use Rattle.plain_apply.proofs.Items.{length_items, take_items}
 use Rattle.plain_apply.proofs.lists.cut.Goals as goal
 
 pub returns : goal.returns

@@ -1,7 +1,7 @@
 use Rattle.std.proofs.Common.{◌≡◌, length, false, arith}
 use Rattle.std.proofs.lemmas.Bool.Decides.{nat_tests}
 use Rattle.std.specs.Prelude.{nat_le}
-use Rattle.plain_apply.specs.Items.{length_items, remove_items}
+use Rattle.plain_apply.proofs.Items.{length_items, remove_items}
 use Rattle.plain_apply.proofs.lists.taken_out.Goals as goal
 
 pub returns : goal.returns

@@ -1,14 +1,14 @@
 use Rattle.std.proofs.Common.{◌≡◌, ◌<◌, length, refl, map, false, sym, ap, ◌∙◌, drop, pos, arith}
 use Rattle.patch_meaning.specs.Applying.{patched}
 use Rattle.value_model.specs.Limits.{is_reserved_text}
-use Rattle.value_model.specs.Steps.{list_of_entries}
-use Rattle.value_model.specs.Tables.{put_ascends}
+use Rattle.value_model.proofs.Steps.{list_of_entries}
+use Rattle.value_model.proofs.Tables.{put_ascends}
 use Rattle.value_model.specs.declared.key.Key.TheVariants as key
 use Rattle.value_model.specs.declared.kind.Kind.TheVariants as kind
 use Rattle.values.specs.Seen.{of_field, of_fields, of_entry, of_entries, of_item, of_items}
 use Rattle.values.specs.declared.val.Entry.{Entry}
 use Rattle.values.specs.declared.val.Field.{Field}
-use Rattle.plain_apply.specs.Down.{goes_down, no_text, no_name, field_child, field_done, no_entry, entry_child, entry_done, item_child, item_done, fails_child, put_changed}
+use Rattle.plain_apply.proofs.Down.{goes_down, no_text, no_name, field_child, field_done, no_entry, entry_child, entry_done, item_child, item_done, fails_child, put_changed}
 use Rattle.plain_apply.proofs.steps.+patched.Goals as goal
 
 pub inside-returns-in-Obj : goal.inside-returns-in-Obj

@@ -1,7 +1,7 @@
 use Rattle.std.proofs.Common.{sym}
-use Rattle.value_model.specs.Search.{remove_found}
+use Rattle.value_model.proofs.Search.{remove_found}
 use Rattle.values.specs.Seen.{of_entry}
-use Rattle.plain_apply.specs.Without.{without_absent}
+use Rattle.plain_apply.proofs.Without.{without_absent}
 use Rattle.plain_apply.proofs.tables.remove_entry.Goals as goal
 
 pub returns-in-Ok : goal.returns-in-Ok

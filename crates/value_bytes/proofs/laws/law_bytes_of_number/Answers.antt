@@ -1,4 +1,4 @@
-use Rattle.value_bytes_spec.specs.Numbers.{bytes_of_number}
+use Rattle.value_bytes_spec.proofs.Numbers.{bytes_of_number}
 use Rattle.value_bytes.proofs.laws.law_bytes_of_number.Goals as goal
 
 pub returns : goal.returns

@@ -1,7 +1,7 @@
 use Rattle.std.specs.Prelude.{List}
 use Rattle.value_model.specs.Plain.{Plain}
 use Rattle.values.specs.declared.patch.Patch.{Patch}
-use Rattle.value_bytes_spec.specs.Formats.{value_format, patches_format, one_front}
+use Rattle.value_bytes_spec.proofs.Formats.{value_format, patches_format, one_front}
 use Rattle.value_bytes_spec.specs.Reading.{value_at, patches_at}
 use Rattle.value_bytes_spec.specs.Spelling.{value_bytes, patches_bytes, IsValue, IsPatches}
 use Rattle.value_bytes.proofs.laws.law_one_front.Goals as goal

@@ -6,7 +6,7 @@ use Rattle.value_model.specs.declared.kind.Kind.TheVariants as kind
 use Rattle.values.specs.declared.val.Entry.{Entry}
 use Rattle.values.specs.declared.val.Field.{Field}
 use Rattle.values.specs.Seen.{of_field, of_entry, of_item, of_member}
-use Rattle.value_bytes_spec.specs.Chains.{read_ascends}
+use Rattle.value_bytes_spec.proofs.Chains.{read_ascends}
 use Rattle.value_bytes_spec.specs.Reading.{nested_at, follows}
 use Rattle.value_bytes.specs.Runs.{last_key}
 use Rattle.value_bytes.proofs.Loops.{goes_on, refused, ends, is_done, item_read, item_stops, no_level, a_level}

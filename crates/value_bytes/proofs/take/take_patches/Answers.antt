@@ -1,6 +1,6 @@
 use Rattle.std.proofs.Common.{List, Some, arith}
 use Rattle.values.specs.declared.patch.Patch.{Patch}
-use Rattle.value_bytes_spec.specs.Formats.{patches_format}
+use Rattle.value_bytes_spec.proofs.Formats.{patches_format}
 use Rattle.value_bytes_spec.specs.Numbers.{IsBytes}
 use Rattle.value_bytes_spec.specs.Reading.{patches_at}
 use Rattle.value_bytes_spec.specs.Spelling.{patches_bytes, IsPatches}

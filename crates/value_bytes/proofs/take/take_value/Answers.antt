@@ -1,6 +1,6 @@
 use Rattle.std.proofs.Common.{Some, arith}
 use Rattle.value_model.specs.Plain.{Plain}
-use Rattle.value_bytes_spec.specs.Formats.{value_format}
+use Rattle.value_bytes_spec.proofs.Formats.{value_format}
 use Rattle.value_bytes_spec.specs.Numbers.{IsBytes}
 use Rattle.value_bytes_spec.specs.Reading.{value_at}
 use Rattle.value_bytes_spec.specs.Spelling.{value_bytes, IsValue}

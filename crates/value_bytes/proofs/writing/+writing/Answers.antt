@@ -2,7 +2,7 @@ use Rattle.std.proofs.Common.{◌≡◌, ◌<◌, ◌^◌, length, sym, ap, subs
 use Rattle.std.proofs.lemmas.Result.{on_ok_weaker}
 use Rattle.value_model.specs.declared.kind.Kind.TheVariants as kind
 use Rattle.value_model.specs.Plain.{Plain, node, weight}
-use Rattle.values.specs.Fits.{fields_fit, items_fit, entries_fit, members_fit}
+use Rattle.values.proofs.Fits.{fields_fit, items_fit, entries_fit, members_fit}
 use Rattle.values.specs.Seen.{plain_of, of_field, of_entry, of_item, of_member, of_fields, of_entries, of_items, of_members}
 use Rattle.value_bytes.proofs.Nodes.{few, spelled_node, well_node}
 use Rattle.value_bytes.proofs.writing.+writing.Goals as goal

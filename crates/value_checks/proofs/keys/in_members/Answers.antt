@@ -1,5 +1,5 @@
 use Rattle.std.proofs.Common.{sym}
-use Rattle.value_checks.specs.Members.{members_reserved, members_well}
+use Rattle.value_checks.proofs.Members.{members_reserved, members_well}
 use Rattle.value_checks.proofs.keys.in_members.Goals as goal
 
 pub returns-clause-reserved : goal.returns-clause-reserved

@@ -1,4 +1,4 @@
-use Rattle.value_model.specs.Steps.{list_of_entries}
+use Rattle.value_model.proofs.Steps.{list_of_entries}
 use Rattle.value_checks.proofs.places.child.Goals as goal
 
 pub returns-in-List : goal.returns-in-List

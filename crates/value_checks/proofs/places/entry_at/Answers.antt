@@ -1,7 +1,7 @@
 use Rattle.std.proofs.Common.{sym}
 use Rattle.value_checks.proofs.places.entry_at.Goals as goal
-use Rattle.value_checks.specs.Members.{not_placed}
-use Rattle.value_model.specs.Search.{found_at}
+use Rattle.value_checks.proofs.Members.{not_placed}
+use Rattle.value_model.proofs.Search.{found_at}
 use Rattle.values.specs.Seen.{of_entry}
 
 pub returns-in-Ok : goal.returns-in-Ok

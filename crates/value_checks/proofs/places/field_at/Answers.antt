@@ -1,7 +1,8 @@
 use Rattle.std.proofs.Common.{sym, refl, ◌≡◌}
 use Rattle.value_checks.proofs.places.field_at.Goals as goal
-use Rattle.value_checks.specs.Members.{no_field, not_placed, IsText}
-use Rattle.value_model.specs.Search.{found_at}
+use Rattle.value_checks.specs.Members.{IsText}
+use Rattle.value_checks.proofs.Members.{no_field, not_placed}
+use Rattle.value_model.proofs.Search.{found_at}
 use Rattle.value_model.specs.declared.key.Key.{Key}
 use Rattle.value_model.specs.declared.key.Key.TheVariants as key
 use Rattle.values.specs.Seen.{of_field}

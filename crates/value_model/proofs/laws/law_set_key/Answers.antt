@@ -1,4 +1,4 @@
-use Rattle.value_model.specs.Tables.{find_put_same, find_put_other}
+use Rattle.value_model.proofs.Tables.{find_put_same, find_put_other}
 use Rattle.value_model.proofs.laws.law_set_key.Goals as goal
 
 pub returns-clause-here : goal.returns-clause-here

@@ -1,4 +1,4 @@
-use Rattle.value_model.specs.Tables.{find_without_same, find_without_other}
+use Rattle.value_model.proofs.Tables.{find_without_same, find_without_other}
 use Rattle.value_model.proofs.laws.law_unset_key.Goals as goal
 
 pub returns-clause-here : goal.returns-clause-here

@@ -1,6 +1,6 @@
 use Rattle.std.proofs.Common.{arith}
 use Rattle.std.proofs.lemmas.Grind.{common_steps}
-use Rattle.value_model.specs.Steps.{values_members}
+use Rattle.value_model.proofs.Steps.{values_members}
 use Rattle.values.proofs.measures.+values.Goals as goal
 
 pub values-returns-in-Set : goal.values-returns-in-Set

@@ -1,9 +1,9 @@
 use Rattle.std.proofs.Common.{◌≡◌, ◌∙◌, ◌+◌, List, ◌∷◌, [], length, refl, sym, subst, ap, ℕ}
 use Rattle.run_heap.specs.declared.content.Content.{Content}
-use Rattle.run_heap.specs.Laws.{made_fits, objects_sound}
+use Rattle.run_heap.proofs.Laws.{made_fits, objects_sound}
 use Rattle.run_heap.specs.Sound.{IsSound}
-use Rattle.draft_core.specs.Changed.{stands_as}
-use Rattle.draft_core.specs.Fresh.{heap_made, next_made}
+use Rattle.draft_core.proofs.Changed.{stands_as}
+use Rattle.draft_core.proofs.Fresh.{heap_made, next_made}
 use Rattle.draft_core.specs.Seen.{heap}
 use Rattle.draft_core.proofs.scope.Scope.add.Goals as goal
 

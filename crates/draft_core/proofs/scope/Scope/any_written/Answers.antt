@@ -1,5 +1,5 @@
 use Rattle.std.proofs.Common.{◌∙◌}
-use Rattle.draft_core.specs.Marks.{any_marks}
+use Rattle.draft_core.proofs.Marks.{any_marks}
 use Rattle.draft_core.proofs.scope.Scope.any_written.Goals as goal
 
 pub returns : goal.returns

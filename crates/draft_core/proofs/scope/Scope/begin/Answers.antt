@@ -1,6 +1,6 @@
 use Rattle.std.proofs.Common.{◌∙◌, ap, ℕ}
 use Rattle.run_heap.specs.Heap.{opened}
-use Rattle.draft_core.specs.Kept.{heap_begun, stands_begun}
+use Rattle.draft_core.proofs.Kept.{heap_begun, stands_begun}
 use Rattle.draft_core.proofs.scope.Scope.begin.Goals as goal
 
 pub returns-clause-heap : goal.returns-clause-heap

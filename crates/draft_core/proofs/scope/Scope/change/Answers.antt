@@ -1,4 +1,4 @@
-use Rattle.draft_core.specs.Changed.{change_may, change_done, change_sound, change_grows, stands_as}
+use Rattle.draft_core.proofs.Changed.{change_may, change_done, change_sound, change_grows, stands_as}
 use Rattle.draft_core.proofs.scope.Scope.change.Goals as goal
 
 pub rewrite_at-requires : goal.rewrite_at-requires

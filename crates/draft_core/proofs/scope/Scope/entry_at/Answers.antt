@@ -4,7 +4,7 @@ use Rattle.run_heap.specs.declared.content.Content.{Content}
 use Rattle.run_heap.specs.Operations.{rows_of, value_at}
 use Rattle.run_heap.specs.Sound.{IsStored}
 use Rattle.draft_slots.specs.Looks.{looked}
-use Rattle.draft_core.specs.Kept.{ok_more, entry_stored, container_owned}
+use Rattle.draft_core.proofs.Kept.{ok_more, entry_stored, container_owned}
 use Rattle.draft_core.specs.Seen.{heap}
 use Rattle.draft_core.proofs.scope.Scope.entry_at.Goals as goal
 

@@ -1,11 +1,11 @@
 use Rattle.std.proofs.Common.{ap, ◌∙◌, sym}
 use Rattle.run_heap.specs.declared.content.Content.{Content}
 use Rattle.run_heap.specs.Heap.{shown}
-use Rattle.run_heap.specs.Laws.{shown_content, shown_entry}
+use Rattle.run_heap.proofs.Laws.{shown_content, shown_entry}
 use Rattle.run_heap.specs.Operations.{then_read, entry}
 use Rattle.run_heap.specs.Sound.{Fits}
 use Rattle.draft_slots.specs.Looks.{looked}
-use Rattle.draft_core.specs.Kept.{answered}
+use Rattle.draft_core.proofs.Kept.{answered}
 use Rattle.draft_core.specs.Seen.{heap}
 use Rattle.draft_core.proofs.scope.Scope.get.Goals as goal
 

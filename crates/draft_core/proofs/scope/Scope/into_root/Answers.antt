@@ -1,5 +1,5 @@
 use Rattle.std.proofs.Common.{sym}
-use Rattle.draft_core.specs.Ended.{root_left}
+use Rattle.draft_core.proofs.Ended.{root_left}
 use Rattle.draft_core.proofs.scope.Scope.into_root.Goals as goal
 
 pub returns : goal.returns

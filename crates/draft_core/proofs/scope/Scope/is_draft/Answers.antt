@@ -1,4 +1,4 @@
-use Rattle.draft_core.specs.Kept.{draft_is}
+use Rattle.draft_core.proofs.Kept.{draft_is}
 use Rattle.draft_core.proofs.scope.Scope.is_draft.Goals as goal
 
 pub returns-in-Obj : goal.returns-in-Obj

@@ -1,8 +1,8 @@
 use Rattle.std.proofs.Common.{◌∙◌, sym}
 use Rattle.draft_slots.specs.Looks.{looked}
-use Rattle.draft_slots.specs.LookFacts.{looked_some}
-use Rattle.draft_core.specs.Fresh.{keys_read}
-use Rattle.draft_core.specs.Kept.{owns_ours}
+use Rattle.draft_slots.proofs.LookFacts.{looked_some}
+use Rattle.draft_core.proofs.Fresh.{keys_read}
+use Rattle.draft_core.proofs.Kept.{owns_ours}
 use Rattle.draft_core.specs.Seen.{heap}
 use Rattle.draft_core.proofs.scope.Scope.key_list.Goals as goal
 

@@ -2,7 +2,7 @@ use Rattle.std.proofs.Common.{ap, ◌∙◌}
 use Rattle.std.specs.Prelude.{Option, Some, option_map}
 use Rattle.value_model.specs.declared.kind.Kind.{Kind}
 use Rattle.run_heap.specs.declared.content.Content.{Content}
-use Rattle.draft_slots.specs.LookFacts.{looked_kind}
+use Rattle.draft_slots.proofs.LookFacts.{looked_kind}
 use Rattle.draft_core.proofs.scope.Scope.kind_of.Goals as goal
 
 pub returns-in-Some : goal.returns-in-Some

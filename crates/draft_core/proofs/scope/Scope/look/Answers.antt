@@ -1,5 +1,5 @@
 use Rattle.std.proofs.Common.{ap}
-use Rattle.draft_core.specs.Kept.{frozen_shown, frozen_number}
+use Rattle.draft_core.proofs.Kept.{frozen_shown, frozen_number}
 use Rattle.draft_core.specs.Tables.{own_table}
 use Rattle.draft_core.proofs.scope.Scope.look.Goals as goal
 

@@ -2,7 +2,7 @@ use Rattle.std.proofs.Common.{◌∙◌, ◌-◌, sym, ap, arith}
 use Rattle.std.specs.Prelude.{Some, Option}
 use Rattle.run_heap.specs.declared.content.Content.{Content}
 use Rattle.draft_core.specs.Changed.{own_draft, own_later}
-use Rattle.draft_core.specs.Kept.{get_in, later_inside, later_is, touched_is, own_ascends, node_shown, node_fits}
+use Rattle.draft_core.proofs.Kept.{get_in, later_inside, later_is, touched_is, own_ascends, node_shown, node_fits}
 use Rattle.draft_core.specs.Seen.{heap}
 use Rattle.draft_core.proofs.scope.Scope.look_at.Goals as goal
 

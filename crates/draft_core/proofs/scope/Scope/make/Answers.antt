@@ -2,11 +2,11 @@ use Rattle.std.proofs.Common.{◌≡◌, ◌∙◌, ◌+◌, List, ◌∷◌, []
 use Rattle.std.proofs.lemmas.Result.{err_from_is_err_and}
 use Rattle.run_heap.specs.declared.content.Content.{Content}
 use Rattle.run_heap.specs.Heap.{with_objects}
-use Rattle.run_heap.specs.Laws.{made_fits, objects_sound, grows_objects, grows_refl}
+use Rattle.run_heap.proofs.Laws.{made_fits, objects_sound, grows_objects, grows_refl}
 use Rattle.run_heap.specs.Sound.{IsSound, Grows}
 use Rattle.draft_core.specs.declared.scope.Scope.{Scope}
-use Rattle.draft_core.specs.Changed.{heap_same, stands_as}
-use Rattle.draft_core.specs.Fresh.{heap_made, next_made, literal_contents}
+use Rattle.draft_core.proofs.Changed.{heap_same, stands_as}
+use Rattle.draft_core.proofs.Fresh.{heap_made, next_made, literal_contents}
 use Rattle.draft_core.specs.Seen.{heap}
 use Rattle.draft_core.proofs.scope.Scope.make.Goals as goal
 

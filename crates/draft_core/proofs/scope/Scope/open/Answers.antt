@@ -3,8 +3,9 @@ use Rattle.std.specs.Ordering.{nat_cmp}
 use Rattle.std.specs.BTreeMap.{is_at}
 use Rattle.std.specs.Map.{lookup}
 use Rattle.run_heap.specs.Sound.{IsSound}
-use Rattle.draft_core.specs.Changed.{heap_opened, heap_unchanged, stands_as, apart, none_there, later_own}
-use Rattle.draft_core.specs.Kept.{node_fits, node_copied}
+use Rattle.draft_core.specs.Changed.{heap_opened, heap_unchanged}
+use Rattle.draft_core.proofs.Changed.{stands_as, apart, none_there, later_own}
+use Rattle.draft_core.proofs.Kept.{node_fits, node_copied}
 use Rattle.draft_core.proofs.scope.Scope.open.Goals as goal
 
 pub returns-then-name-self-clause-own : goal.returns-then-name-self-clause-own

@@ -1,5 +1,5 @@
 use Rattle.std.proofs.Common.{◌∙◌, sym}
-use Rattle.draft_core.specs.Kept.{original_draft, original_none, opened_on, same_scope}
+use Rattle.draft_core.proofs.Kept.{original_draft, original_none, opened_on, same_scope}
 use Rattle.draft_core.proofs.scope.Scope.original.Goals as goal
 
 pub returns-then-object-self-clause-answer : goal.returns-then-object-self-clause-answer

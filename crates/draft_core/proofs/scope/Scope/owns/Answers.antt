@@ -1,4 +1,4 @@
-use Rattle.draft_core.specs.Kept.{owns_object}
+use Rattle.draft_core.proofs.Kept.{owns_object}
 use Rattle.draft_core.proofs.scope.Scope.owns.Goals as goal
 
 pub returns-in-Obj : goal.returns-in-Obj

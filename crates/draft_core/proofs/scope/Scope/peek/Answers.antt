@@ -1,4 +1,4 @@
-use Rattle.draft_core.specs.Kept.{peek_is}
+use Rattle.draft_core.proofs.Kept.{peek_is}
 use Rattle.draft_core.proofs.scope.Scope.peek.Goals as goal
 
 pub returns : goal.returns

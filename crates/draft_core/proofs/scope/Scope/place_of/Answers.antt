@@ -1,6 +1,6 @@
 use Rattle.std.proofs.Common.{◌∙◌, sym}
-use Rattle.draft_core.specs.Kept.{draft_path, draft_inside}
-use Rattle.draft_core.specs.Paths.{place_path}
+use Rattle.draft_core.proofs.Kept.{draft_path, draft_inside}
+use Rattle.draft_core.proofs.Paths.{place_path}
 use Rattle.draft_core.specs.Seen.{heap}
 use Rattle.draft_core.proofs.scope.Scope.place_of.Goals as goal
 

@@ -1,13 +1,13 @@
 use Rattle.std.proofs.Common.{◌∙◌, ◌+◌, ◌++◌, length, refl, sym, subst, ap, ℕ, arith}
 use Rattle.std.proofs.lemmas.Result.{err_from_is_err_and}
 use Rattle.run_heap.specs.Heap.{Heap}
-use Rattle.run_heap.specs.Laws.{objects_sound, grows_objects, grows_refl, plain_fits}
+use Rattle.run_heap.proofs.Laws.{objects_sound, grows_objects, grows_refl, plain_fits}
 use Rattle.run_heap.specs.Operations.{literals, with_plain}
 use Rattle.run_heap.specs.Sound.{IsSound, Fits, Grows}
 use Rattle.draft_core.specs.declared.scope.Scope.{Scope}
-use Rattle.draft_core.specs.Changed.{heap_same, stands_as}
-use Rattle.draft_core.specs.Fresh.{heap_made}
-use Rattle.draft_core.specs.Literals.{few_places, plain_contents, made_literals}
+use Rattle.draft_core.proofs.Changed.{heap_same, stands_as}
+use Rattle.draft_core.proofs.Fresh.{heap_made}
+use Rattle.draft_core.proofs.Literals.{few_places, plain_contents, made_literals}
 use Rattle.draft_core.specs.Seen.{heap}
 use Rattle.draft_core.proofs.scope.Scope.plain_of.Goals as goal
 

@@ -1,6 +1,6 @@
 use Rattle.std.proofs.Common.{refl, sym, subst}
 use Rattle.run_heap.specs.Sound.{IsSound}
-use Rattle.draft_core.specs.Changed.{heap_same, stands_as}
+use Rattle.draft_core.proofs.Changed.{heap_same, stands_as}
 use Rattle.draft_core.proofs.scope.Scope.reserve.Goals as goal
 
 pub returns-clause-heap : goal.returns-clause-heap

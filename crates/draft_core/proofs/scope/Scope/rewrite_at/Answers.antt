@@ -1,5 +1,6 @@
 use Rattle.std.proofs.Common.{refl}
-use Rattle.draft_core.specs.Changed.{rewrote_draft, rewrote_later, later_has, on_err, heap_unchanged, heap_same}
+use Rattle.draft_core.specs.Changed.{rewrote_draft, rewrote_later, heap_unchanged}
+use Rattle.draft_core.proofs.Changed.{later_has, on_err, heap_same}
 use Rattle.draft_core.proofs.scope.Scope.rewrite_at.Goals as goal
 
 pub returns-then-name-self-clause-ok : goal.returns-then-name-self-clause-ok

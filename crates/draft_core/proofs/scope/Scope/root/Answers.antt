@@ -1,6 +1,6 @@
 use Rattle.std.proofs.Common.{sym, ap, ℕ}
 use Rattle.run_heap.specs.declared.value.Rv.TheVariants.{Obj}
-use Rattle.draft_core.specs.Kept.{scope_is, root_inside}
+use Rattle.draft_core.proofs.Kept.{scope_is, root_inside}
 use Rattle.draft_core.proofs.scope.Scope.root.Goals as goal
 
 pub returns-clause-value : goal.returns-clause-value

@@ -2,8 +2,8 @@ use Rattle.std.proofs.Common.{sym, subst}
 use Rattle.std.specs.FinMap.Entries.{put}
 use Rattle.value_model.specs.declared.key.Key.{Key}
 use Rattle.value_model.specs.Order.{key_cmp}
-use Rattle.draft_core.specs.Keeping.{put_keeps, without_keeps}
-use Rattle.draft_core.specs.Kept.{object_owned}
+use Rattle.draft_core.proofs.Keeping.{put_keeps, without_keeps}
+use Rattle.draft_core.proofs.Kept.{object_owned}
 use Rattle.draft_core.specs.Seen.{heap}
 use Rattle.draft_core.specs.Writes.{KeepsTable}
 use Rattle.draft_core.proofs.scope.Scope.set_key.Goals as goal

@@ -1,5 +1,5 @@
-use Rattle.draft_core.specs.Keeping.{splice_keeps}
-use Rattle.draft_core.specs.Kept.{object_owned}
+use Rattle.draft_core.proofs.Keeping.{splice_keeps}
+use Rattle.draft_core.proofs.Kept.{object_owned}
 use Rattle.draft_core.specs.Seen.{heap}
 use Rattle.draft_core.proofs.scope.Scope.splice_at.Goals as goal
 

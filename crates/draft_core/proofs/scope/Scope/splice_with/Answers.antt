@@ -1,11 +1,11 @@
 use Rattle.std.proofs.Common.{◌≡◌, ◌∙◌, List, ◌∷◌, [], ap, sym, subst}
 use Rattle.run_heap.specs.Heap.{with_object}
-use Rattle.run_heap.specs.Laws.{grows_objects, grows_refl}
+use Rattle.run_heap.proofs.Laws.{grows_objects, grows_refl}
 use Rattle.run_heap.specs.Operations.{spliced}
 use Rattle.run_heap.specs.Sound.{AllStored, Grows}
-use Rattle.draft_core.specs.Keeping.{splice_keeps}
-use Rattle.draft_core.specs.Kept.{object_owned}
-use Rattle.draft_core.specs.Lists.{all_stored_on, grows_on, list_contents}
+use Rattle.draft_core.proofs.Keeping.{splice_keeps}
+use Rattle.draft_core.proofs.Kept.{object_owned}
+use Rattle.draft_core.proofs.Lists.{all_stored_on, grows_on, list_contents}
 use Rattle.draft_core.specs.Seen.{heap}
 use Rattle.draft_core.specs.Writes.{KeepsTable}
 use Rattle.draft_core.proofs.scope.Scope.splice_with.Goals as goal

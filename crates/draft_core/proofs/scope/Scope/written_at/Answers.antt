@@ -1,6 +1,6 @@
 use Rattle.std.proofs.Common.{◌-◌, sym}
 use Rattle.std.specs.Prelude.{Some, None}
-use Rattle.draft_core.specs.Kept.{marked_later, marked_touched, get_at, get_past}
+use Rattle.draft_core.proofs.Kept.{marked_later, marked_touched, get_at, get_past}
 use Rattle.draft_core.proofs.scope.Scope.written_at.Goals as goal
 
 pub returns-in-Some : goal.returns-in-Some

@@ -1,9 +1,9 @@
 use Rattle.std.proofs.Common.{◌≡◌, ◌∙◌, ◌<◌, length, sym, subst, arith}
 use Rattle.run_heap.specs.declared.value.Rv.{Rv}
 use Rattle.run_heap.specs.Sound.{Owned}
-use Rattle.draft_core.specs.Kept.{ok_more}
+use Rattle.draft_core.proofs.Kept.{ok_more}
 use Rattle.draft_core.specs.Seen.{heap}
-use Rattle.draft_runs.specs.Held.{owned_at}
+use Rattle.draft_runs.proofs.Held.{owned_at}
 use Rattle.draft_runs.proofs.run.Run.answer.Goals as goal
 
 pub returns-then-i-len : goal.returns-then-i-len

@@ -1,6 +1,6 @@
 use Rattle.std.proofs.Common.{◌∙◌, sym}
 use Rattle.draft_core.specs.Seen.{heap}
-use Rattle.draft_runs.specs.Asked.{container_some}
+use Rattle.draft_runs.proofs.Asked.{container_some}
 use Rattle.draft_runs.proofs.run.Run.container.Goals as goal
 
 pub returns-clause-container : goal.returns-clause-container

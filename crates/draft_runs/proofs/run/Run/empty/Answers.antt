@@ -1,5 +1,5 @@
 use Rattle.draft_core.specs.Seen.{heap}
-use Rattle.draft_runs.specs.Held.{all_grow}
+use Rattle.draft_runs.proofs.Held.{all_grow}
 use Rattle.draft_runs.proofs.run.Run.empty.Goals as goal
 
 pub returns-in-Some-clause-owned : goal.returns-in-Some-clause-owned

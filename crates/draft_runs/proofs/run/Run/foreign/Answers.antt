@@ -1,9 +1,9 @@
 use Rattle.std.proofs.Common.{sym, subst}
 use Rattle.run_heap.specs.declared.value.Rv.TheVariants.{Obj}
 use Rattle.run_heap.specs.Sound.{AllOwned}
-use Rattle.draft_core.specs.Kept.{root_inside}
+use Rattle.draft_core.proofs.Kept.{root_inside}
 use Rattle.draft_core.specs.Seen.{heap}
-use Rattle.draft_runs.specs.Held.{owned_more}
+use Rattle.draft_runs.proofs.Held.{owned_more}
 use Rattle.draft_runs.proofs.run.Run.foreign.Goals as goal
 
 pub returns-clause-owned : goal.returns-clause-owned

@@ -1,6 +1,6 @@
 use Rattle.std.proofs.Common.{◌∙◌, sym}
 use Rattle.draft_core.specs.Seen.{heap}
-use Rattle.draft_runs.specs.Asked.{stored_is}
+use Rattle.draft_runs.proofs.Asked.{stored_is}
 use Rattle.draft_runs.proofs.run.Run.is_stored.Goals as goal
 
 pub returns-in_default : goal.returns-in_default

@@ -4,7 +4,7 @@ use Rattle.run_heap.specs.declared.value.Rv.{Rv}
 use Rattle.run_heap.specs.declared.fault.DraftFault.{DraftFault}
 use Rattle.run_heap.specs.Sound.{Fits, AllOwned}
 use Rattle.draft_core.specs.Seen.{heap}
-use Rattle.draft_runs.specs.Held.{owned_more, fits_owned}
+use Rattle.draft_runs.proofs.Held.{owned_more, fits_owned}
 use Rattle.draft_runs.proofs.run.Run.keep.Goals as goal
 
 pub returns-in_ok-push-in-Ok-clause-owned : goal.returns-in_ok-push-in-Ok-clause-owned

@@ -1,5 +1,5 @@
 use Rattle.draft_core.specs.Seen.{heap}
-use Rattle.draft_runs.specs.Held.{all_grow}
+use Rattle.draft_runs.proofs.Held.{all_grow}
 use Rattle.draft_runs.proofs.run.Run.plain.Goals as goal
 
 pub keep-requires-clause-owned : goal.keep-requires-clause-owned

@@ -1,7 +1,7 @@
 use Rattle.std.proofs.Common.{sym, subst}
 use Rattle.run_heap.specs.Sound.{AllStored}
 use Rattle.draft_core.specs.Seen.{heap}
-use Rattle.draft_runs.specs.Asked.{stored_more}
+use Rattle.draft_runs.proofs.Asked.{stored_more}
 use Rattle.draft_runs.proofs.run.Run.stored.Goals as goal
 
 pub loop-operand-preserved : goal.loop-operand-preserved

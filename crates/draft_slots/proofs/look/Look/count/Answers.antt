@@ -1,6 +1,6 @@
 use Rattle.std.proofs.Common.{◌∙◌, sym, arith}
 use Rattle.numbered.specs.Store.{tree_at}
-use Rattle.draft_slots.specs.LookFacts.{count_node, few_cells}
+use Rattle.draft_slots.proofs.LookFacts.{count_node, few_cells}
 use Rattle.draft_slots.proofs.look.Look.count.Goals as goal
 
 pub returns-in-Node-clause-value : goal.returns-in-Node-clause-value

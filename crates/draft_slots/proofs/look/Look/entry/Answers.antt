@@ -1,4 +1,4 @@
-use Rattle.draft_slots.specs.LookFacts.{then_entry}
+use Rattle.draft_slots.proofs.LookFacts.{then_entry}
 use Rattle.draft_slots.proofs.look.Look.entry.Goals as goal
 
 pub returns-in-Text : goal.returns-in-Text

@@ -2,7 +2,7 @@ use Rattle.std.proofs.Common.{◌∙◌, arith}
 use Rattle.run_heap.specs.declared.value.Rv.TheVariants.{Prim}
 use Rattle.run_heap.specs.Operations.{listed, keys_of, rows_of, item}
 use Rattle.draft_slots.specs.Looks.{looked}
-use Rattle.draft_slots.specs.LookFacts.{listed_at, listed_length, one_more, all_there}
+use Rattle.draft_slots.proofs.LookFacts.{listed_at, listed_length, one_more, all_there}
 use Rattle.draft_slots.proofs.look.Look.keys.Goals as goal
 
 pub loop-i-preserved : goal.loop-i-preserved

@@ -2,7 +2,7 @@ use Rattle.std.proofs.Common.{sym}
 use Rattle.std.specs.Prelude.{Some, None}
 use Rattle.run_heap.specs.Operations.{rows_of}
 use Rattle.draft_slots.specs.Looks.{looked}
-use Rattle.draft_slots.specs.LookFacts.{position_below, member_found, member_absent, entry_found}
+use Rattle.draft_slots.proofs.LookFacts.{position_below, member_found, member_absent, entry_found}
 use Rattle.draft_slots.proofs.look.Look.member.Goals as goal
 
 pub value-requires-clause-in_range : goal.value-requires-clause-in_range

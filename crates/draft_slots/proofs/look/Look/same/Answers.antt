@@ -2,8 +2,8 @@ use Rattle.std.proofs.Common.{◌≡◌, ◌∙◌, ◌<◌, ℕ, ap, subst, get
 use Rattle.numbered.specs.Store.{tree_at}
 use Rattle.run_heap.specs.Operations.{Rows, value_at}
 use Rattle.run_heap.specs.Values.{same}
-use Rattle.draft_slots.specs.LookFacts.{count_node}
-use Rattle.draft_slots.specs.Nodes.{value_in, some_is}
+use Rattle.draft_slots.proofs.LookFacts.{count_node}
+use Rattle.draft_slots.proofs.Nodes.{value_in, some_is}
 use Rattle.draft_slots.proofs.look.Look.same.Goals as goal
 
 pub node_same-requires-clause-in_range : goal.node_same-requires-clause-in_range

@@ -1,4 +1,4 @@
-use Rattle.draft_slots.specs.LookFacts.{source_node}
+use Rattle.draft_slots.proofs.LookFacts.{source_node}
 use Rattle.draft_slots.proofs.look.Look.source.Goals as goal
 
 pub returns-in-Node : goal.returns-in-Node

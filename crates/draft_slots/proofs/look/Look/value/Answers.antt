@@ -1,6 +1,6 @@
 use Rattle.std.proofs.Common.{◌<◌, ℕ, subst}
 use Rattle.numbered.specs.Store.{tree_at}
-use Rattle.draft_slots.specs.LookFacts.{count_node}
+use Rattle.draft_slots.proofs.LookFacts.{count_node}
 use Rattle.draft_slots.proofs.look.Look.value.Goals as goal
 
 pub node_value-requires-clause-in_range : goal.node_value-requires-clause-in_range

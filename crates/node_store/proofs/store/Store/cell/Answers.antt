@@ -1,6 +1,6 @@
 use Rattle.std.proofs.Common.{◌<◌, length, refl}
 use Rattle.std.proofs.lemmas.Option.{slice_get_read}
-use Rattle.node_store.specs.Shown.{cell_below}
+use Rattle.node_store.proofs.Shown.{cell_below}
 use Rattle.node_store.proofs.store.Store.cell.Goals as goal
 
 pub returns-clause-below : goal.returns-clause-below

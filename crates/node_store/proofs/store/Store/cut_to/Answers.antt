@@ -4,7 +4,7 @@ use Rattle.numbered.specs.Tree.{Tree}
 use Rattle.numbered.specs.Store.{used}
 use Rattle.node_store.specs.declared.held.Held.{Held}
 use Rattle.node_store.specs.Kept.{Sound, news}
-use Rattle.node_store.specs.Grown.{news_take, sound_take, used_take}
+use Rattle.node_store.proofs.Grown.{news_take, sound_take, used_take}
 use Rattle.node_store.proofs.store.Store.cut_to.Goals as goal
 
 -- the states of the nodes that are left

@@ -1,9 +1,9 @@
 use Rattle.std.proofs.Common.{◌-◌, [], List, length, get_or, ap, arith}
 use Rattle.numbered.specs.Tree.{Tree}
 use Rattle.numbered.specs.Store.{IsNumber}
-use Rattle.node_store.specs.Grown.{length_news, held_at, is_store}
+use Rattle.node_store.proofs.Grown.{length_news, held_at, is_store}
 use Rattle.node_store.specs.Kept.{news}
-use Rattle.node_store.specs.Shown.{read_held}
+use Rattle.node_store.proofs.Shown.{read_held}
 use Rattle.node_store.proofs.store.Store.held.Goals as goal
 
 pub index-requires : goal.index-requires

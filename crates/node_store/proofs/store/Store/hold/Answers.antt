@@ -1,5 +1,5 @@
 use Rattle.std.proofs.Common.{ℕ, ◌+◌, ◌∙◌, ap, refl}
-use Rattle.node_store.specs.Added.{kept_from}
+use Rattle.node_store.proofs.Added.{kept_from}
 use Rattle.node_store.specs.Kept.{sums}
 use Rattle.node_store.proofs.store.Store.hold.Goals as goal
 

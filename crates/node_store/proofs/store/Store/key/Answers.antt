@@ -7,7 +7,8 @@ use Rattle.value_model.specs.declared.kind.Kind.{Kind}
 use Rattle.node_store.specs.declared.node.Cell.{Cell}
 use Rattle.node_store.specs.Nodes.{key_of}
 use Rattle.node_store.specs.Kept.{IsPaired}
-use Rattle.node_store.specs.Shown.{IsPrim, ArePrim, HasMembers, member_at, held_keys}
+use Rattle.node_store.specs.Shown.{IsPrim, ArePrim, HasMembers, held_keys}
+use Rattle.node_store.proofs.Shown.{member_at}
 use Rattle.node_store.proofs.store.Store.key.Goals as goal
 
 pub key_in-requires : goal.key_in-requires

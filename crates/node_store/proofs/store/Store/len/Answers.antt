@@ -1,4 +1,4 @@
-use Rattle.node_store.specs.Grown.{is_store}
+use Rattle.node_store.proofs.Grown.{is_store}
 use Rattle.node_store.proofs.store.Store.len.Goals as goal
 
 pub returns-clause-store : goal.returns-clause-store

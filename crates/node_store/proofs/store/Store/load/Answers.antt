@@ -1,6 +1,6 @@
 use Rattle.std.proofs.Common.{◌∙◌, ℕ, take, ap, sym, subst}
 use Rattle.numbered.specs.Tree.{Tree, plain}
-use Rattle.numbered.specs.Laws.{plain_numbered, cut_back}
+use Rattle.numbered.proofs.Laws.{plain_numbered, cut_back}
 use Rattle.node_store.specs.declared.node.Cell.{Cell}
 use Rattle.node_store.specs.declared.node.Cell.TheVariants as cell
 use Rattle.node_store.specs.Loads.{IsLast}

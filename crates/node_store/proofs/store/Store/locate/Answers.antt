@@ -1,6 +1,6 @@
 use Rattle.std.proofs.Common.{sym, ◌∙◌}
 use Rattle.numbered.specs.Store.{tree_at}
-use Rattle.numbered.specs.Laws.{first_place}
+use Rattle.numbered.proofs.Laws.{first_place}
 use Rattle.node_store.proofs.store.Store.locate.Goals as goal
 
 pub returns-clause-place : goal.returns-clause-place

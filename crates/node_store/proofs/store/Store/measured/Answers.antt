@@ -1,5 +1,5 @@
 use Rattle.std.proofs.Common.{◌∙◌, sym}
-use Rattle.node_store.specs.Added.{light_state, own_state}
+use Rattle.node_store.proofs.Added.{light_state, own_state}
 use Rattle.node_store.specs.Sums.{IsMeasured}
 use Rattle.node_store.proofs.store.Store.measured.Goals as goal
 

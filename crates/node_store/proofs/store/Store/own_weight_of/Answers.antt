@@ -1,6 +1,6 @@
 use Rattle.std.proofs.Common.{◌≡◌, sym, subst}
 use Rattle.numbered.specs.Tree.{child_weight}
-use Rattle.numbered.specs.Laws.{child_at}
+use Rattle.numbered.proofs.Laws.{child_at}
 use Rattle.node_store.specs.declared.node.Cell.{Cell}
 use Rattle.node_store.specs.declared.node.Cell.TheVariants as cell
 use Rattle.node_store.specs.Nodes.{cell_tree, CellBelow}

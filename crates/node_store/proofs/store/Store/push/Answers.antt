@@ -3,10 +3,10 @@ use Rattle.std.specs.Prelude.{Bool, ◌||◌, nat_lt}
 use Rattle.std.proofs.lemmas.Bool.{or_parts}
 use Rattle.numbered.specs.Tree.{Tree, own_weight}
 use Rattle.numbered.specs.Store.{used, is_full}
-use Rattle.numbered.specs.Laws.{used_append}
+use Rattle.numbered.proofs.Laws.{used_append}
 use Rattle.node_store.specs.declared.held.Held.{Held}
 use Rattle.node_store.specs.Kept.{IsKept, Sound, news, tree_of}
-use Rattle.node_store.specs.Grown.{news_push, sound_push, length_news}
+use Rattle.node_store.proofs.Grown.{news_push, sound_push, length_news}
 use Rattle.node_store.proofs.store.Store.push.Goals as goal
 
 -- the store after one more is held

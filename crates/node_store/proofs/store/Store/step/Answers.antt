@@ -2,7 +2,7 @@ use Rattle.std.proofs.Common.{◌≡◌, arith, ap, ◌∙◌}
 use Rattle.std.specs.Prelude.{Some, slice_get}
 use Rattle.numbered.specs.Tree.{prim, branches_of, children}
 use Rattle.numbered.specs.Store.{tree_at}
-use Rattle.numbered.specs.Laws.{within_child, place_in_child}
+use Rattle.numbered.proofs.Laws.{within_child, place_in_child}
 use Rattle.node_store.specs.declared.node.Cell.{Cell}
 use Rattle.node_store.specs.Nodes.{cell_tree}
 use Rattle.node_store.proofs.store.Store.step.Goals as goal

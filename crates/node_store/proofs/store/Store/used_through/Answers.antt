@@ -2,7 +2,7 @@ use Rattle.std.proofs.Common.{[], List, length, take, ap, arith, ◌∙◌}
 use Rattle.numbered.specs.Tree.{Tree}
 use Rattle.numbered.specs.Store.{used}
 use Rattle.node_store.specs.declared.held.Held.{Held}
-use Rattle.node_store.specs.Grown.{length_news, total_through}
+use Rattle.node_store.proofs.Grown.{length_news, total_through}
 use Rattle.node_store.proofs.store.Store.used_through.Goals as goal
 
 pub index-requires : goal.index-requires

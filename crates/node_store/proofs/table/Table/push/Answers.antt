@@ -2,7 +2,7 @@ use Rattle.std.proofs.Common.{◌∙◌, List, ◌∷◌, [], ◌++◌, ap}
 use Rattle.std.specs.List.{zip}
 use Rattle.value_model.specs.declared.key.Key.{Key}
 use Rattle.node_store.specs.declared.node.Cell.{Cell}
-use Rattle.node_store.specs.Tables.{zip_push}
+use Rattle.node_store.proofs.Tables.{zip_push}
 use Rattle.node_store.proofs.table.Table.push.Goals as goal
 
 pub returns : goal.returns

@@ -1,4 +1,4 @@
--- Tables as finite maps: what is found after an entry is set or removed, and that the keys still ascend.
+-- Tables as finite maps: what is found after an entry is set or removed, and that the keys still ascend: laws.
 use Rattle.std.specs.Prelude.{◌≡◌, ◌≢◌, List, Some, None, Bool, true, false, IsTrue, not, refl}
 use Rattle.std.proofs.Common.{sym, ap, subst, cond, ◌∙◌, Less, Equal, Greater}
 use Rattle.std.specs.Ordering.{is_eq, eq_by_cmp}

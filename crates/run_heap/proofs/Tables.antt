@@ -1,6 +1,6 @@
--- Tables that objects may have, after an entry is set or removed, and after elements are replaced.
+-- Tables that objects may have, after an entry is set or removed, and after elements are replaced: laws.
 use Rattle.std.proofs.Common.{◌≡◌, ℕ, zero, suc, List, [], ◌∷◌, ◌++◌, length, map, take, drop, refl, sym, subst, Bool, true, false, not, cond, Less, Equal, Greater}
-use Rattle.std.specs.Prelude.{◌&&◌, ◌==◌, slice_set, if◌then◌else◌}
+use Rattle.std.specs.Prelude.{◌==◌, slice_set, if◌then◌else◌}
 use Rattle.std.specs.FinMap.Entries.{put, where_key, is_sorted, by_order, is_sorted-put, is_sorted-where_key}
 use Rattle.std.specs.Ordering.{eq_by_cmp}
 use Rattle.std.proofs.lemmas.Bool.{and_from}

@@ -1,4 +1,4 @@
--- Tables of a store that grew, and what a state's node shows of its table.
+-- Tables of a store that grew, and what a state's node shows of its table: laws.
 use Rattle.std.proofs.Common.{◌≡◌, ℕ, ◌+◌, ◌-◌, List, [], ◌∷◌, ◌++◌, length, map, take, refl, ap, ◌∙◌, arith}
 use Rattle.std.specs.List.{zip}
 use Rattle.value_model.specs.declared.key.Key.{Key}
@@ -7,7 +7,8 @@ use Rattle.value_model.specs.declared.kind.Kind.{Kind}
 use Rattle.value_model.specs.declared.kind.Kind.TheVariants as kind
 use Rattle.numbered.specs.Tree.{Tree, prim, node, branch, containers, number}
 use Rattle.numbered.specs.Store.{tree_at, IsNext, IsStore, IsOf, AllOf}
-use Rattle.numbered.specs.Laws.{Extends, state_at, number_at, of_number}
+use Rattle.numbered.specs.Laws.{Extends, state_at}
+use Rattle.numbered.proofs.Laws.{number_at, of_number}
 use Rattle.node_store.specs.declared.node.Cell.{Cell}
 use Rattle.node_store.specs.declared.node.Cell.TheVariants as cell
 use Rattle.node_store.specs.Nodes.{key_of, rows, CellBelow, CellsBelow, cell_tree, branches, cell_of, cells_in, keys_in}

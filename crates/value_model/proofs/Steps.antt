@@ -1,4 +1,4 @@
--- The definitions at a list of entries: what one more entry adds, and that no child is larger.
+-- The definitions at a list of entries: what one more entry adds, and that no child is larger: laws.
 use Rattle.std.specs.Prelude.{◌≡◌, ℕ, ◌+◌, ◌<◌, ◌≤◌, max, List, [], ◌∷◌, ◌++◌, map, length, refl}
 use Rattle.std.proofs.Common.{zero, suc, ap, arith, take, get_or}
 use Rattle.std.proofs.lemmas.List.{map_more}

@@ -1,9 +1,9 @@
--- A table without the entry of a key that it doesn't have is the same.
+-- A table without the entry of a key that it doesn't have is the same: laws.
 use Rattle.std.specs.Prelude.{◌≡◌, ℕ, Err, List, [], ◌∷◌, map, Bool, true, false, not, Option, Some, None, IsTrue, refl}
 use Rattle.std.proofs.Common.{ap, cond}
 use Rattle.std.specs.FinMap.Entries.{find, is_sorted}
 use Rattle.std.specs.Ordering.{eq_by_cmp}
-use Rattle.value_checks.specs.Members.{not_placed}
+use Rattle.value_checks.proofs.Members.{not_placed}
 use Rattle.value_model.specs.Order.{key_cmp}
 use Rattle.value_model.specs.Places.{without_key}
 use Rattle.value_model.specs.Plain.{Plain, Table}

@@ -1,4 +1,4 @@
--- What a scope keeps: the objects of its heap in its tables, over a store that extends the one at its beginning.
+-- What a scope keeps: the objects of its heap in its tables, over a store that extends the one at its beginning: laws.
 use Rattle.std.proofs.Common.{◌≡◌, ℕ, zero, suc, ◌+◌, ◌-◌, ◌<◌, ◌≤◌, ◌^◌, List, [], ◌∷◌, length, get_or, take, refl, ap, sym, ◌∙◌, subst, arith, Bool, true, false}
 use Rattle.std.specs.Prelude.{Option, Some, None, nat_lt, if◌then◌else◌, slice_get, IsTrue, IfOk, Result, Ok, Err, not, ◌==◌, ◌&&◌}
 use Rattle.std.specs.BTreeMap.{get, is_at}
@@ -8,11 +8,11 @@ use Rattle.std.specs.Ordering.{nat_cmp}
 use Rattle.std.proofs.lemmas.Grind.{common_steps}
 use Rattle.value_model.specs.declared.key.Key.TheVariants as key
 use Rattle.value_model.specs.Search.{right_true}
-use Rattle.numbered.specs.Laws.{extends_take, containers_at, of_number, place_of}
+use Rattle.numbered.proofs.Laws.{extends_take, containers_at, of_number, place_of}
 use Rattle.numbered.specs.Store.{IsNumber, IsStore, IsOf, tree_at}
 use Rattle.numbered.specs.Tree.{Tree, prim, node, containers, containers_in, branches_of, before, place}
 use Rattle.node_store.specs.Nodes.{cell_of, cells_of}
-use Rattle.node_store.specs.Tables.{cell_again}
+use Rattle.node_store.proofs.Tables.{cell_again}
 use Rattle.node_store.specs.declared.node.Cell.TheVariants as cell
 use Rattle.run_heap.specs.declared.value.ObjRef.{ObjRef}
 use Rattle.run_heap.specs.declared.value.Rv.{Rv}
@@ -23,7 +23,7 @@ use Rattle.run_heap.specs.declared.fault.DraftFault.{DraftFault}
 use Rattle.run_heap.specs.declared.fault.DraftFault.TheVariants as fault
 use Rattle.run_heap.specs.Answers.{Answers}
 use Rattle.draft_slots.specs.Looks.{Fit, IsLook, looked}
-use Rattle.draft_slots.specs.LookFacts.{rows_node, source_node}
+use Rattle.draft_slots.proofs.LookFacts.{rows_node, source_node}
 use Rattle.draft_slots.specs.Peeks.{IsKept}
 use Rattle.draft_slots.specs.declared.look.Look.{Look}
 use Rattle.draft_slots.specs.declared.look.Look.TheVariants.{Own, Node}
@@ -31,7 +31,7 @@ use Rattle.draft_slots.specs.declared.look.Peek.{Peek}
 use Rattle.draft_slots.specs.declared.look.Peek.TheVariants.{Read, Untouched}
 use Rattle.run_heap.specs.declared.content.Content.{Content}
 use Rattle.run_heap.specs.Heap.{Heap, copied, opened, drafts, is_draft, is_foreign, shown, after, given_content}
-use Rattle.run_heap.specs.Laws.{get_none, no_place, place_within, opened_sound, shown_content, value_stored}
+use Rattle.run_heap.proofs.Laws.{get_none, no_place, place_within, opened_sound, shown_content, value_stored}
 use Rattle.run_heap.specs.Operations as spec
 use Rattle.run_heap.specs.Places.{path_to}
 use Rattle.run_heap.specs.Sound.{IsSound, IsContent, IsContainer, IsObject, IsStored, HasSource, RowsStored, Owned, ascends}

@@ -1,4 +1,4 @@
--- A list's edits, seen as a table of entries with the key null.
+-- A list's edits, seen as a table of entries with the key null: laws.
 use Rattle.std.specs.Prelude.{◌≡◌, ℕ, ◌+◌, ◌<◌, List, [], ◌∷◌, ◌++◌, map, length, refl}
 use Rattle.std.proofs.Common.{zero, suc, ap, arith, take, drop, set, add-one}
 use Rattle.std.specs.List.{insert, remove}

@@ -1,11 +1,12 @@
--- Fresh lists of values that may be stored.
-use Rattle.std.proofs.Common.{◌≡◌, List, [], ◌∷◌, map, refl, ◌∙◌, sym, true, arith}
+-- Fresh lists of values that may be stored: laws.
+use Rattle.std.proofs.Common.{◌≡◌, List, [], ◌∷◌, map, refl, ◌∙◌, true, arith}
 use Rattle.std.specs.Prelude.{Option, Some, None}
 use Rattle.value_model.specs.declared.kind.Kind.TheVariants as kind
 use Rattle.run_heap.specs.declared.value.Rv.{Rv}
 use Rattle.run_heap.specs.declared.content.Content.{Content}
 use Rattle.run_heap.specs.Heap.{Heap, fresh, with_object}
-use Rattle.run_heap.specs.Laws.{AllContents, Onwards, rows_on, stored_on, objects_on}
+use Rattle.run_heap.specs.Laws.{AllContents, Onwards}
+use Rattle.run_heap.proofs.Laws.{rows_on, stored_on, objects_on}
 use Rattle.run_heap.specs.Operations.{item}
 use Rattle.run_heap.specs.Sound.{AllStored, Grows, Keeps, RowsStored, all_stand}
 

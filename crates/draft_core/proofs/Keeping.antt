@@ -1,4 +1,4 @@
--- Tables that writing calls leave may be tables of objects.
+-- Tables that writing calls leave may be tables of objects: laws.
 use Rattle.std.proofs.Common.{◌≡◌, ◌≢◌, ℕ, List, refl, ap, subst}
 use Rattle.std.specs.Prelude.{Option, Some, None, option_map, IsTrue}
 use Rattle.std.specs.FinMap.Entries.{put, is_sorted}
@@ -9,10 +9,10 @@ use Rattle.value_model.specs.Order.{key_cmp}
 use Rattle.run_heap.specs.declared.value.Rv.{Rv}
 use Rattle.run_heap.specs.declared.content.Content.{Content}
 use Rattle.run_heap.specs.Heap.{Heap, shown}
-use Rattle.run_heap.specs.Laws.{shown_content}
+use Rattle.run_heap.proofs.Laws.{shown_content}
 use Rattle.run_heap.specs.Operations.{kind_of, rows_of, table_of, spliced, without}
 use Rattle.run_heap.specs.Sound.{IsSound, IsContent, IsTable, IsStored, AllStored, Owned}
-use Rattle.run_heap.specs.Tables.{splice_table, put_table, without_table}
+use Rattle.run_heap.proofs.Tables.{splice_table, put_table, without_table}
 use Rattle.draft_core.specs.Writes.{KeepsTable, KeepsIn, MayStandIn}
 
 some_kind : (c : Content) (of : Kind) → option_map (λ (d : Content). d.kind) (Some c) ≡ Some of → c.kind ≡ of

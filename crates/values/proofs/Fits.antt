@@ -1,4 +1,4 @@
--- The keys of a value in code fit its kind.
+-- The keys of a value in code fit its kind: laws.
 use Rattle.std.specs.Prelude.{◌≡◌, List, [], ◌∷◌, true, refl}
 use Rattle.std.proofs.lemmas.Cmp.{tied_itself}
 use Rattle.value_model.specs.declared.key.Key.{Key}

@@ -1,4 +1,4 @@
--- What a look at a node shows.
+-- What a look at a node shows: laws.
 use Rattle.std.proofs.Common.{◌≡◌, ◌≢◌, ℕ, zero, suc, ◌<◌, List, [], ◌∷◌, ◌++◌, length, drop, refl, ap, sym, ◌∙◌, subst, arith, true, false, cond}
 use Rattle.std.proofs.Math.Seq.{drop-nil}
 use Rattle.std.proofs.lemmas.List.{append-nil, append_assoc}
@@ -13,11 +13,11 @@ use Rattle.value_model.specs.declared.kind.Kind.TheVariants as kind
 use Rattle.value_model.specs.Order.{key_cmp}
 use Rattle.value_model.specs.Plain as plain_value
 use Rattle.value_model.specs.Plain.{Plain, values, values_in}
-use Rattle.numbered.specs.Laws.{before_le, values_at}
+use Rattle.numbered.proofs.Laws.{before_le, values_at}
 use Rattle.numbered.specs.Store.{IsNumber, IsStore, tree_at}
 use Rattle.numbered.specs.Tree.{Tree, Branches, prim, node, none, branch, plain, plains, branches_of, before}
 use Rattle.node_store.specs.Nodes.{kind_of, cells_of, cells_in, cell_of}
-use Rattle.node_store.specs.Tables.{cell_again}
+use Rattle.node_store.proofs.Tables.{cell_again}
 use Rattle.node_store.specs.declared.node.Cell.TheVariants as cell
 use Rattle.run_heap.specs.declared.value.Given.{Given}
 use Rattle.run_heap.specs.declared.value.Given.TheVariants as given
@@ -29,7 +29,8 @@ use Rattle.run_heap.specs.Operations.{Rows, rows_of, source_in, value_at, positi
 use Rattle.draft_slots.specs.declared.look.Look.{Look}
 use Rattle.draft_slots.specs.declared.look.Look.TheVariants.{Own, Node}
 use Rattle.draft_slots.specs.Looks.{looked, IsLook, kind_in, Fit, GivenFits}
-use Rattle.draft_slots.specs.Nodes.{node_table, table_length}
+use Rattle.draft_slots.specs.Nodes.{node_table}
+use Rattle.draft_slots.proofs.Nodes.{table_length}
 
 pub rows_node : (g : Given) (t : Tree) → rows_of (given_content g t) ≡ node_table g t
 rows_node g (prim k) = refl

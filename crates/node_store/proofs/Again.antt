@@ -1,4 +1,4 @@
--- A store's state is the one that its node stands for.
+-- A store's state is the one that its node stands for: laws.
 use Rattle.std.proofs.Common.{◌≡◌, ℕ, ◌-◌, List, [], take, refl, sym, true, Less, Equal, Greater}
 use Rattle.std.specs.List.{zip}
 use Rattle.std.specs.Ordering.{is_eq}

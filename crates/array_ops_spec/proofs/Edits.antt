@@ -1,4 +1,4 @@
--- What replacing a range of a list's elements makes of the list.
+-- What replacing a range of a list's elements makes of the list: laws.
 use Rattle.std.proofs.Common.{◌≡◌, ℕ, zero, suc, ◌<◌, ◌≤◌, ◌+◌, ◌-◌, min, List, [], ◌∷◌, ◌++◌, length, map, take, drop, reverse, refl, ap, sym, ◌∙◌, subst, arith, Bool, true, false, cond}
 use Rattle.std.proofs.Math.Seq.{drop-length, take-length}
 use Rattle.std.proofs.lemmas.List.{append-nil, append_assoc, map-append, length-map}

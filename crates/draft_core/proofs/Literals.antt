@@ -1,4 +1,4 @@
--- The objects of a plain value may be objects of the heap that they are added to.
+-- The objects of a plain value may be objects of the heap that they are added to: laws.
 use Rattle.std.proofs.Common.{◌≡◌, ℕ, ◌+◌, ◌≤◌, ◌^◌, List, [], ◌∷◌, ◌++◌, length, map, refl, ap, sym, ◌∙◌, subst, arith, true, false}
 use Rattle.std.proofs.lemmas.List.{map-append, length-map}
 use Rattle.std.specs.Prelude.{◌&&◌, ◌||◌, None, Some, nat_lt, if◌then◌else◌}
@@ -16,18 +16,17 @@ use Rattle.value_model.specs.Plain as plain_value
 use Rattle.value_model.specs.Plain.{Plain, Entries, list_of}
 use Rattle.value_model.specs.Well.{well, all_fit, all_well}
 use Rattle.value_model.specs.Search.{left_true, right_true}
-use Rattle.numbered.specs.Laws.{length_post, containers_numbered, places_le_values, values_le_weight}
+use Rattle.numbered.proofs.Laws.{length_post, containers_numbered, places_le_values, values_le_weight}
 use Rattle.numbered.specs.Loading.{places, places_in, numbered, numbered_in, post_order, post_orders}
 use Rattle.numbered.specs.Tree.{Tree, node}
 use Rattle.run_heap.specs.declared.value.Rv.{Rv}
-use Rattle.run_heap.specs.declared.value.Rv.TheVariants.{Prim}
 use Rattle.run_heap.specs.declared.content.Content.{Content}
 use Rattle.run_heap.specs.Heap.{Heap}
 use Rattle.run_heap.specs.Laws.{AllContents, left_false, right_false, value_long, value_reserved}
 use Rattle.run_heap.specs.Operations.{named_value, named_table, literal, literals, with_plain, plain_value as value_of}
 use Rattle.draft_literals.specs.Making.{IsMade}
 use Rattle.draft_core.specs.declared.scope.Scope.{Scope}
-use Rattle.draft_core.specs.Kept.{scope_is, next_is}
+use Rattle.draft_core.proofs.Kept.{scope_is, next_is}
 use Rattle.draft_core.specs.Seen.{heap}
 use Rattle.run_heap.specs.Sound.{RowsStored, IsTable, all_stand, ascends}
 
