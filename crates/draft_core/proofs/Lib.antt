@@ -1,10 +1,10 @@
 pub mod Changed
 pub mod Ended
-pub mod Fresh
+pub mod FreshLaws
 pub mod Keeping
 pub mod Kept
-pub mod Lists
+pub mod ListsLaws
 pub mod Literals
 pub mod Marks
 pub mod Paths
-pub mod Plans
+pub mod PlansLaws

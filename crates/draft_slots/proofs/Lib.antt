@@ -1,3 +1,3 @@
 pub mod LookFacts
-pub mod Nodes
+pub mod NodesLaws
 pub mod Tables

@@ -30,7 +30,7 @@ use Rattle.draft_slots.specs.declared.look.Look.{Look}
 use Rattle.draft_slots.specs.declared.look.Look.TheVariants.{Own, Node}
 use Rattle.draft_slots.specs.Looks.{looked, IsLook, kind_in, Fit, GivenFits}
 use Rattle.draft_slots.specs.Nodes.{node_table}
-use Rattle.draft_slots.proofs.Nodes.{table_length}
+use Rattle.draft_slots.proofs.NodesLaws.{table_length}
 
 pub rows_node : (g : Given) (t : Tree) → rows_of (given_content g t) ≡ node_table g t
 rows_node g (prim k) = refl

@@ -6,7 +6,7 @@ use Rattle.value_model.specs.Order.{key_cmp}
 use Rattle.value_model.proofs.Steps.{list_of_entries}
 use Rattle.values.proofs.Fits.{fields_fit, items_fit, entries_fit}
 use Rattle.values.specs.Seen.{of_field, of_item, of_entry, of_fields, of_items, of_entries}
-use Rattle.draft_literals.proofs.Making.{next_is, none_left, making_room, making_next, made_all, values_fall, container_ok, container_room}
+use Rattle.draft_literals.proofs.MakingLaws.{next_is, none_left, making_room, making_next, made_all, values_fall, container_ok, container_room}
 use Rattle.draft_literals.proofs.making.+literals.Goals as goal
 
 -- ---- literal_fields

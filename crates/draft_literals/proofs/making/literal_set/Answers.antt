@@ -5,7 +5,7 @@ use Rattle.value_model.specs.Order.{key_cmp}
 use Rattle.value_model.proofs.Steps.{list_of_entries}
 use Rattle.values.proofs.Fits.{members_fit}
 use Rattle.values.specs.Seen.{of_member, of_members}
-use Rattle.draft_literals.proofs.Making.{members_made, container_ok}
+use Rattle.draft_literals.proofs.MakingLaws.{members_made, container_ok}
 use Rattle.draft_literals.proofs.making.literal_set.Goals as goal
 
 pub returns : goal.returns

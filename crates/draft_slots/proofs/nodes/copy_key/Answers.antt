@@ -1,5 +1,5 @@
 use Rattle.std.proofs.Common.{sym}
-use Rattle.draft_slots.proofs.Nodes.{null_key}
+use Rattle.draft_slots.proofs.NodesLaws.{null_key}
 use Rattle.draft_slots.proofs.nodes.copy_key.Goals as goal
 
 pub returns-in-List : goal.returns-in-List

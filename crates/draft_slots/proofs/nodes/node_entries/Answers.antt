@@ -3,7 +3,7 @@ use Rattle.numbered.specs.Store.{tree_at}
 use Rattle.numbered.specs.Tree.{branches_of}
 use Rattle.draft_slots.proofs.LookFacts.{one_more, all_there}
 use Rattle.draft_slots.specs.Nodes.{node_table}
-use Rattle.draft_slots.proofs.Nodes.{table_length}
+use Rattle.draft_slots.proofs.NodesLaws.{table_length}
 use Rattle.draft_slots.proofs.nodes.node_entries.Goals as goal
 
 pub loop-i-preserved : goal.loop-i-preserved

@@ -4,7 +4,7 @@ use Rattle.std.proofs.Common.{subst, sym, List, ◌≡◌}
 use Rattle.std.specs.Prelude.{slice_get, Some}
 use Rattle.value_model.specs.declared.key.Key.{Key}
 use Rattle.draft_slots.specs.Nodes.{node_table}
-use Rattle.draft_slots.proofs.Nodes.{entry_from, table_keys}
+use Rattle.draft_slots.proofs.NodesLaws.{entry_from, table_keys}
 use Rattle.draft_slots.proofs.nodes.node_entry.Goals as goal
 
 pub returns : goal.returns

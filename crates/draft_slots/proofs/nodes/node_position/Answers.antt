@@ -1,7 +1,7 @@
 use Rattle.numbered.specs.Store.{tree_at}
 use Rattle.node_store.specs.Nodes.{keys_of}
 use Rattle.draft_slots.specs.Nodes.{node_table}
-use Rattle.draft_slots.proofs.Nodes.{keyed_keys, sorted_node, position_match}
+use Rattle.draft_slots.proofs.NodesLaws.{keyed_keys, sorted_node, position_match}
 use Rattle.draft_slots.proofs.nodes.node_position.Goals as goal
 
 pub returns : goal.returns

@@ -10,7 +10,7 @@ use Rattle.run_heap.specs.Operations.{value_at}
 use Rattle.run_heap.specs.Values.{same}
 use Rattle.draft_slots.proofs.LookFacts.{fits_before}
 use Rattle.draft_slots.specs.Nodes.{given_cell, given_node, node_table}
-use Rattle.draft_slots.proofs.Nodes.{value_given, some_is}
+use Rattle.draft_slots.proofs.NodesLaws.{value_given, some_is}
 use Rattle.draft_slots.proofs.nodes.node_same.Goals as goal
 
 pub give-requires : goal.give-requires

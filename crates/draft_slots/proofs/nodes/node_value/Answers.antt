@@ -9,7 +9,7 @@ use Rattle.run_heap.specs.declared.value.Rv.TheVariants as rv
 use Rattle.run_heap.specs.Heap.{after}
 use Rattle.draft_slots.proofs.LookFacts.{fits_before}
 use Rattle.draft_slots.specs.Nodes.{given_cell, given_node}
-use Rattle.draft_slots.proofs.Nodes.{value_given}
+use Rattle.draft_slots.proofs.NodesLaws.{value_given}
 use Rattle.draft_slots.proofs.nodes.node_value.Goals as goal
 
 pub give-requires : goal.give-requires

@@ -3,7 +3,7 @@ use Rattle.run_heap.specs.declared.content.Content.{Content}
 use Rattle.run_heap.proofs.Laws.{made_fits, objects_sound}
 use Rattle.run_heap.specs.Sound.{IsSound}
 use Rattle.draft_core.proofs.Changed.{stands_as}
-use Rattle.draft_core.proofs.Fresh.{heap_made, next_made}
+use Rattle.draft_core.proofs.FreshLaws.{heap_made, next_made}
 use Rattle.draft_core.specs.Seen.{heap}
 use Rattle.draft_core.proofs.scope.Scope.add.Goals as goal
 

@@ -1,7 +1,7 @@
 use Rattle.std.proofs.Common.{◌∙◌, sym}
 use Rattle.draft_slots.specs.Looks.{looked}
 use Rattle.draft_slots.proofs.LookFacts.{looked_some}
-use Rattle.draft_core.proofs.Fresh.{keys_read}
+use Rattle.draft_core.proofs.FreshLaws.{keys_read}
 use Rattle.draft_core.proofs.Kept.{owns_ours}
 use Rattle.draft_core.specs.Seen.{heap}
 use Rattle.draft_core.proofs.scope.Scope.key_list.Goals as goal

@@ -1,4 +1,4 @@
-use Rattle.draft_core.proofs.Fresh.{keys_literal}
+use Rattle.draft_core.proofs.FreshLaws.{keys_literal}
 use Rattle.draft_core.specs.Seen.{heap}
 use Rattle.draft_core.proofs.scope.Scope.keys.Goals as goal
 

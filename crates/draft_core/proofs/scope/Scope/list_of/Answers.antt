@@ -2,7 +2,7 @@ use Rattle.std.proofs.Common.{◌≡◌, ◌∙◌, List, ◌∷◌, [], ap, sym
 use Rattle.run_heap.specs.Heap.{with_object}
 use Rattle.run_heap.proofs.Laws.{grows_objects, grows_refl}
 use Rattle.run_heap.specs.Sound.{AllStored, Grows}
-use Rattle.draft_core.proofs.Lists.{list_contents}
+use Rattle.draft_core.proofs.ListsLaws.{list_contents}
 use Rattle.draft_core.specs.Seen.{heap}
 use Rattle.draft_core.proofs.scope.Scope.list_of.Goals as goal
 

@@ -6,7 +6,7 @@ use Rattle.run_heap.proofs.Laws.{made_fits, objects_sound, grows_objects, grows_
 use Rattle.run_heap.specs.Sound.{IsSound, Grows}
 use Rattle.draft_core.specs.declared.scope.Scope.{Scope}
 use Rattle.draft_core.proofs.Changed.{heap_same, stands_as}
-use Rattle.draft_core.proofs.Fresh.{heap_made, next_made, literal_contents}
+use Rattle.draft_core.proofs.FreshLaws.{heap_made, next_made, literal_contents}
 use Rattle.draft_core.specs.Seen.{heap}
 use Rattle.draft_core.proofs.scope.Scope.make.Goals as goal
 

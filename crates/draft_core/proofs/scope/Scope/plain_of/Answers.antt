@@ -6,7 +6,7 @@ use Rattle.run_heap.specs.Operations.{literals, with_plain}
 use Rattle.run_heap.specs.Sound.{IsSound, Fits, Grows}
 use Rattle.draft_core.specs.declared.scope.Scope.{Scope}
 use Rattle.draft_core.proofs.Changed.{heap_same, stands_as}
-use Rattle.draft_core.proofs.Fresh.{heap_made}
+use Rattle.draft_core.proofs.FreshLaws.{heap_made}
 use Rattle.draft_core.proofs.Literals.{few_places, plain_contents, made_literals}
 use Rattle.draft_core.specs.Seen.{heap}
 use Rattle.draft_core.proofs.scope.Scope.plain_of.Goals as goal

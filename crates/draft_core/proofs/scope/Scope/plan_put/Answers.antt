@@ -2,7 +2,7 @@ use Rattle.std.proofs.Common.{◌∙◌, sym}
 use Rattle.draft_slots.specs.Looks.{looked}
 use Rattle.draft_slots.proofs.LookFacts.{looked_some}
 use Rattle.draft_core.proofs.Kept.{owns_ours}
-use Rattle.draft_core.proofs.Plans.{plan_looked}
+use Rattle.draft_core.proofs.PlansLaws.{plan_looked}
 use Rattle.draft_core.specs.Seen.{heap}
 use Rattle.draft_core.proofs.scope.Scope.plan_put.Goals as goal
 

@@ -5,7 +5,7 @@ use Rattle.run_heap.specs.Operations.{spliced}
 use Rattle.run_heap.specs.Sound.{AllStored, Grows}
 use Rattle.draft_core.proofs.Keeping.{splice_keeps}
 use Rattle.draft_core.proofs.Kept.{object_owned}
-use Rattle.draft_core.proofs.Lists.{all_stored_on, grows_on, list_contents}
+use Rattle.draft_core.proofs.ListsLaws.{all_stored_on, grows_on, list_contents}
 use Rattle.draft_core.specs.Seen.{heap}
 use Rattle.draft_core.specs.Writes.{KeepsTable}
 use Rattle.draft_core.proofs.scope.Scope.splice_with.Goals as goal

@@ -5,7 +5,7 @@ use Rattle.numbered.specs.Store.{tree_at}
 use Rattle.numbered.specs.Tree.{branches_of}
 use Rattle.run_heap.specs.Operations.{keys_of}
 use Rattle.draft_slots.proofs.LookFacts.{count_node, rows_node}
-use Rattle.draft_slots.proofs.Nodes.{table_keys}
+use Rattle.draft_slots.proofs.NodesLaws.{table_keys}
 use Rattle.draft_slots.proofs.look.Look.copy_key.Goals as goal
 
 pub copy_key-requires-clause-in_range : goal.copy_key-requires-clause-in_range

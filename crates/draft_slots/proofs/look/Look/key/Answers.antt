@@ -5,7 +5,7 @@ use Rattle.numbered.specs.Store.{tree_at}
 use Rattle.run_heap.specs.Operations as spec
 use Rattle.run_heap.specs.Operations.{Rows}
 use Rattle.draft_slots.proofs.LookFacts.{count_node, kind_node, rows_node}
-use Rattle.draft_slots.proofs.Nodes.{keyed_keys, key_in}
+use Rattle.draft_slots.proofs.NodesLaws.{keyed_keys, key_in}
 use Rattle.draft_slots.proofs.look.Look.key.Goals as goal
 
 pub key-requires-clause-in_range : goal.key-requires-clause-in_range

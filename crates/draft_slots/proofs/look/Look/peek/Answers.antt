@@ -5,7 +5,7 @@ use Rattle.numbered.specs.Store.{tree_at}
 use Rattle.numbered.specs.Tree.{branches_of}
 use Rattle.run_heap.specs.Operations.{Rows}
 use Rattle.draft_slots.proofs.LookFacts.{count_node}
-use Rattle.draft_slots.proofs.Nodes.{value_in, value_given}
+use Rattle.draft_slots.proofs.NodesLaws.{value_in, value_given}
 use Rattle.draft_slots.proofs.look.Look.peek.Goals as goal
 
 pub cell-requires-clause-in_range : goal.cell-requires-clause-in_range

@@ -3,7 +3,7 @@ use Rattle.numbered.specs.Store.{tree_at}
 use Rattle.run_heap.specs.Operations.{Rows, value_at}
 use Rattle.run_heap.specs.Values.{same}
 use Rattle.draft_slots.proofs.LookFacts.{count_node}
-use Rattle.draft_slots.proofs.Nodes.{value_in, some_is}
+use Rattle.draft_slots.proofs.NodesLaws.{value_in, some_is}
 use Rattle.draft_slots.proofs.look.Look.same.Goals as goal
 
 pub node_same-requires-clause-in_range : goal.node_same-requires-clause-in_range
