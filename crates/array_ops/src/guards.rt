@@ -39,7 +39,7 @@ pub(crate) fn writable(
     ensures small { IfOk result (λ n. n < 2 ^ 63) }
 {
     listed(scope, store, of, others)?;
-    if is_frozen(of) {
+    if of.is_frozen() {
         return Err(DraftFault::Frozen);
     }
     Ok(scope.count(store, of))
@@ -78,29 +78,11 @@ pub(crate) fn any_undefined(values: &[Rv]) -> bool
     ensures { result ≡ list_any spec.is_undefined values.now }
 {
     for value in values {
-        if is_undefined(value) {
+        if value.is_undefined() {
             return true;
         }
     }
     false
-}
-
-fn is_undefined(value: &Rv) -> bool
-    ensures { result ≡ spec.is_undefined value.now }
-{
-    match value {
-        Rv::Undefined => true,
-        _ => false,
-    }
-}
-
-fn is_frozen(value: &Rv) -> bool
-    ensures { result ≡ spec.is_frozen value.now }
-{
-    match value {
-        Rv::Frozen(_) => true,
-        _ => false,
-    }
 }
 
 fn is_list(found: Option<Kind>) -> bool

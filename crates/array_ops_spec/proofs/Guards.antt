@@ -9,7 +9,8 @@ use Rattle.run_heap.specs.declared.value.Rv.TheVariants.{Undefined, Prim, Obj, F
 use Rattle.run_heap.specs.declared.content.Content.{Content}
 use Rattle.run_heap.specs.declared.fault.DraftFault.TheVariants as fault
 use Rattle.run_heap.specs.Heap.{Heap, shown, is_foreign}
-use Rattle.run_heap.specs.Operations.{any_foreign, is_frozen, is_list, is_undefined, then_read, rows_of, table_of, kind_of}
+use Rattle.run_heap.specs.Operations.{any_foreign, is_frozen, is_undefined, then_read, rows_of, table_of, kind_of}
+use Rattle.value_model.specs.Kinds.{is_list}
 use Rattle.run_heap.specs.Sound.{IsStored, AllStored, Owned, AllOwned}
 use Rattle.run_heap.specs.Laws.{left_false, right_false}
 use Rattle.array_ops_spec.specs.Calls.{elements, items, read_shown}

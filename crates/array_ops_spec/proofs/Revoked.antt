@@ -8,7 +8,8 @@ use Rattle.run_heap.specs.declared.fault.DraftFault.TheVariants.{Revoked}
 use Rattle.run_heap.specs.Foreign.{Revokes}
 use Rattle.run_heap.proofs.Foreign.{edit_revokes, first_cause, ok_other, read_revokes}
 use Rattle.run_heap.specs.Heap.{Heap}
-use Rattle.run_heap.specs.Operations.{edited, is_list, is_undefined}
+use Rattle.run_heap.specs.Operations.{edited, is_undefined}
+use Rattle.value_model.specs.Kinds.{is_list}
 use Rattle.array_ops_spec.specs.Calls.{answer_list, elements, on_list, read_list, read_shown, storing, with_items}
 
 pub storing_other : {X : Type 0} (vs : List Rv) (x : X) → (let r : Result X DraftFault = storing vs (Ok x) in r) ≢ Err Revoked

@@ -9,7 +9,8 @@ use Rattle.run_heap.specs.declared.content.Content.{Content}
 use Rattle.run_heap.specs.declared.fault.DraftFault.{DraftFault}
 use Rattle.run_heap.specs.declared.fault.DraftFault.TheVariants as fault
 use Rattle.run_heap.specs.Heap.{Heap}
-use Rattle.run_heap.specs.Operations.{Rows, Edit, unless, read, edited, item, is_list, is_undefined, or_undefined, then_list}
+use Rattle.run_heap.specs.Operations.{Rows, Edit, unless, read, edited, item, is_undefined, or_undefined, then_list}
+use Rattle.value_model.specs.Kinds.{is_list}
 use Rattle.run_heap.specs.Values.{same}
 
 -- the elements of a list's table

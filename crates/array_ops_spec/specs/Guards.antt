@@ -9,7 +9,8 @@ use Rattle.run_heap.specs.declared.content.Content.{Content}
 use Rattle.run_heap.specs.declared.fault.DraftFault.{DraftFault}
 use Rattle.run_heap.specs.declared.fault.DraftFault.TheVariants as fault
 use Rattle.run_heap.specs.Heap.{Heap, shown, is_foreign}
-use Rattle.run_heap.specs.Operations.{unless, any_foreign, is_frozen, is_list, edited, edit_shown, then_write, then_read, rewrite, table_of, kind_of}
+use Rattle.run_heap.specs.Operations.{unless, any_foreign, is_frozen, edited, edit_shown, then_write, then_read, rewrite, table_of, kind_of}
+use Rattle.value_model.specs.Kinds.{is_list}
 use Rattle.run_heap.specs.Sound.{IsObject, IsContainer, Owned}
 use Rattle.array_ops_spec.specs.Calls.{elements, items, on_list, with_items, read_list, read_shown}
 

@@ -19,7 +19,8 @@ use Rattle.draft_slots.specs.Looks.{kind_in}
 use Rattle.run_heap.specs.Heap.{Heap, copied, shown, is_foreign, with_objects, next_object}
 use Rattle.run_heap.specs.Laws.{AllContents}
 use Rattle.run_heap.proofs.Laws.{read_ours}
-use Rattle.run_heap.specs.Operations.{Rows, listed, keys_of, rows_of, keys_shown, is_object, unless, read, then_read}
+use Rattle.run_heap.specs.Operations.{Rows, listed, keys_of, rows_of, keys_shown, unless, read, then_read}
+use Rattle.value_model.specs.Kinds.{is_object}
 use Rattle.run_heap.specs.Sound.{IsStored, HasSource, RowsStored, all_stand, ascends}
 use Rattle.draft_core.specs.declared.scope.Scope.{Scope}
 use Rattle.draft_core.specs.Changed.{fields, heap_is}

@@ -8,7 +8,7 @@ ghost use Rattle.run_heap.specs.Operations.{Rows, is_hole, rows_of};
 ghost use Rattle.draft_slots.specs.Looks.{looked, IsLook, kind_in};
 ghost use Rattle.draft_core.specs.Plans.{put_plan, remove_plan, index_of};
 
-use draft_slots::{Change, Look, is_long, is_reserved};
+use draft_slots::{Change, Look};
 use node_store::{Kind, Store};
 use run_heap::{DraftFault, Rv};
 use std::alloc::Global;
@@ -49,16 +49,16 @@ fn plan_member<'a>(
     requires { key.now ≡ key_model.Text text.now }
     ensures { (t : Rows) → Answers result (put_plan key.now value (spec.is_frozen of.now) kind.Obj t) }
 {
-    if is_frozen(of) {
+    if of.is_frozen() {
         return Err(DraftFault::Frozen);
     }
-    if is_reserved(text) {
+    if text.is_reserved() {
         return Err(DraftFault::ReservedKey);
     }
-    if is_long(text) {
+    if text.is_long() {
         return Err(DraftFault::KeyTooLong);
     }
-    if is_undefined(&value) {
+    if value.is_undefined() {
         return Err(DraftFault::UndefinedWrite);
     }
     Ok(Change::Set(key.copy(alloc)?, value))
@@ -67,13 +67,14 @@ fn plan_member<'a>(
 fn plan_element<'a>(of: &Rv, at: Safe, len: usize, value: Rv) -> Result<Change<'a>, DraftFault>
     ensures { (t : Rows) → length t ≡ len → Answers result (put_plan (key_model.Int at) value (spec.is_frozen of.now) kind.List t) }
 {
-    if is_frozen(of) {
+    let frozen = of.is_frozen();
+    if frozen {
         return Err(DraftFault::Frozen);
     }
     let Some(i) = index_in(at, len) else {
         return Err(DraftFault::Hole);
     };
-    if is_undefined(&value) {
+    if value.is_undefined() {
         return Err(DraftFault::UndefinedWrite);
     }
     Ok(Change::Element(i, value))
@@ -95,24 +96,6 @@ fn index_in(at: Safe, len: usize) -> Option<usize>
     }
 }
 
-fn is_frozen(v: &Rv) -> bool
-    ensures { result ≡ spec.is_frozen v.now }
-{
-    match v {
-        Rv::Frozen(_) => true,
-        _ => false,
-    }
-}
-
-fn is_undefined(v: &Rv) -> bool
-    ensures { result ≡ spec.is_undefined v.now }
-{
-    match v {
-        Rv::Undefined => true,
-        _ => false,
-    }
-}
-
 /// Whether an object's entry may be removed.
 pub fn plan_remove(store: &Store, look: &Look, of: &Rv, key: &Key) -> Result<(), DraftFault>
     requires { IsLook store.now look.now }
@@ -125,10 +108,10 @@ pub fn plan_remove(store: &Store, look: &Look, of: &Rv, key: &Key) -> Result<(),
         Kind::Obj => {}
         _ => return Err(DraftFault::TypeMismatch),
     }
-    if is_frozen(of) {
+    if of.is_frozen() {
         return Err(DraftFault::Frozen);
     }
-    if is_reserved(text) {
+    if text.is_reserved() {
         return Err(DraftFault::ReservedKey);
     }
     Ok(())

@@ -22,7 +22,8 @@ use Rattle.run_heap.specs.declared.content.Content.{Content}
 use Rattle.run_heap.specs.declared.fault.DraftFault.{DraftFault}
 use Rattle.run_heap.specs.declared.fault.DraftFault.TheVariants as fault
 use Rattle.run_heap.specs.Heap.{Heap, shown, is_foreign, given_table, given_content, with_object, next_object, fresh, given_value}
-use Rattle.run_heap.specs.Operations.{Rows, or_undefined, value_at, entry, then_read, read, get, listed, keys_of, keys_shown, is_object, then_list, keys, rows_of, table_of, entry_at}
+use Rattle.run_heap.specs.Operations.{Rows, or_undefined, value_at, entry, then_read, read, get, listed, keys_of, keys_shown, then_list, keys, rows_of, table_of, entry_at}
+use Rattle.value_model.specs.Kinds.{is_object}
 use Rattle.run_heap.specs.Sound.{IsSound}
 use Rattle.draft_laws.specs.Walks.{then_reads, read_along, IsNoObject, AllPrimitive, under, child, then_subtree, subtree_at, frozen_value}
 

@@ -20,7 +20,8 @@ use Rattle.run_heap.specs.Heap.{Heap, shown, is_foreign}
 use Rattle.run_heap.specs.Operations.{Rows, unless, Edit, edited, edit_shown, then_write, any_foreign, is_frozen, is_undefined, no_answer, kind_of, position, item, listed}
 use Rattle.run_heap.specs.Sound.{AllStored}
 use Rattle.draft_core.specs.Writes.{MayStandIn}
-use Rattle.draft_map_set_spec.specs.MapSet.{is_map, is_set, is_long, by_key, has, map_set, setting}
+use Rattle.draft_map_set_spec.specs.MapSet.{is_long, by_key, has, map_set, setting}
+use Rattle.value_model.specs.Kinds.{is_map, is_set}
 use Rattle.draft_map_set.specs.Checks.{Causes, checked, is_of, write_causes, entry_causes, setting_causes, adding_causes}
 
 -- ---- the first cause that holds

@@ -6,7 +6,8 @@ use Rattle.run_heap.specs.declared.fault.DraftFault.{DraftFault}
 use Rattle.run_heap.specs.declared.fault.DraftFault.TheVariants as fault
 use Rattle.run_heap.specs.Heap.{Heap}
 use Rattle.run_heap.specs.Operations.{unless, any_foreign, is_undefined, is_frozen, kind_of}
-use Rattle.draft_map_set_spec.specs.MapSet.{is_map, is_set, is_map_or_set, is_long}
+use Rattle.draft_map_set_spec.specs.MapSet.{is_map_or_set, is_long}
+use Rattle.value_model.specs.Kinds.{is_map, is_set}
 use Rattle.draft_map_set.specs.declared.checks.Takes.{Takes}
 use Rattle.draft_map_set.specs.declared.checks.Takes.TheVariants.{Maps, Sets, Both}
 

@@ -1,6 +1,5 @@
 //! The refusals of the calls, in their order.
 ghost use Rattle.std.specs.Prelude.{◌≡◌, [], ◌∷◌, false};
-ghost use Rattle.value_model.specs.Limits.{is_long_key};
 ghost use Rattle.run_heap.specs.Heap.{is_foreign};
 ghost use Rattle.run_heap.specs.Operations as spec;
 ghost use Rattle.run_heap.specs.Sound.{Owned};
@@ -9,7 +8,6 @@ ghost use Rattle.draft_core.specs.Seen.{heap, Stands};
 ghost use Rattle.draft_map_set.specs.Checks.{checked, taken, kind_causes, read_causes, write_causes, entry_causes, setting_causes, adding_causes};
 
 use draft_core::{DraftFault, Kind, Rv, Scope, Store};
-use value_model::Key;
 
 /// The containers that a call takes.
 #[derive(Clone, Copy, Drop)]
@@ -24,28 +22,10 @@ impl Takes {
         ensures { result ≡ taken self kind }
     {
         match self {
-            Takes::Maps => is_map(kind),
-            Takes::Sets => is_set(kind),
-            Takes::Both => is_map(kind) | is_set(kind),
+            Takes::Maps => kind.is_map(),
+            Takes::Sets => kind.is_set(),
+            Takes::Both => kind.is_map() | kind.is_set(),
         }
-    }
-}
-
-fn is_map(kind: Kind) -> bool
-    ensures { result ≡ meaning.is_map kind }
-{
-    match kind {
-        Kind::Map => true,
-        _ => false,
-    }
-}
-
-fn is_set(kind: Kind) -> bool
-    ensures { result ≡ meaning.is_set kind }
-{
-    match kind {
-        Kind::Set => true,
-        _ => false,
     }
 }
 
@@ -96,7 +76,7 @@ pub(crate) fn check_write(
     ensures { result ≡ checked (write_causes (taken takes) (heap store.now scope.now) of.now []) }
 {
     check_read(scope, store, of, takes)?;
-    if is_frozen(of) {
+    if of.is_frozen() {
         return Err(DraftFault::Frozen);
     }
     Ok(())
@@ -164,7 +144,7 @@ fn check_entry(key: &Rv, value: &Rv) -> Result<(), DraftFault>
     if is_long(key) {
         return Err(DraftFault::KeyTooLong);
     }
-    if is_undefined(value) {
+    if value.is_undefined() {
         return Err(DraftFault::UndefinedWrite);
     }
     Ok(())
@@ -189,38 +169,11 @@ fn check_kind(scope: &Scope, store: &Store, of: &Rv, takes: Takes) -> Result<(),
     }
 }
 
-fn is_frozen(v: &Rv) -> bool
-    ensures { result ≡ spec.is_frozen v.now }
-{
-    match v {
-        Rv::Frozen(_) => true,
-        _ => false,
-    }
-}
-
-fn is_undefined(v: &Rv) -> bool
-    ensures { result ≡ spec.is_undefined v.now }
-{
-    match v {
-        Rv::Undefined => true,
-        _ => false,
-    }
-}
-
 fn is_long(v: &Rv) -> bool
     ensures { result ≡ meaning.is_long v.now }
 {
     match v {
-        Rv::Prim(key) => is_long_text(key),
-        _ => false,
-    }
-}
-
-fn is_long_text(key: &Key) -> bool
-    ensures { result ≡ is_long_key key.now }
-{
-    match key {
-        Key::Text(text) => draft_slots::is_long(text),
+        Rv::Prim(key) => key.is_long(),
         _ => false,
     }
 }

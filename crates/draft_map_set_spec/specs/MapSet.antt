@@ -7,6 +7,7 @@ use Rattle.value_model.specs.declared.kind.Kind.{Kind}
 use Rattle.value_model.specs.declared.kind.Kind.TheVariants as kind
 use Rattle.value_model.specs.Limits.{is_long_key}
 use Rattle.value_model.specs.Order.{key_cmp}
+use Rattle.value_model.specs.Kinds.{is_map, is_set}
 use Rattle.run_heap.specs.declared.value.Rv.{Rv}
 use Rattle.run_heap.specs.declared.value.Rv.TheVariants.{Prim}
 use Rattle.run_heap.specs.declared.content.Content.{Content}
@@ -16,14 +17,6 @@ use Rattle.run_heap.specs.Heap.{Heap}
 use Rattle.run_heap.specs.Operations.{Rows, unless, is_undefined, read, Edit, edited, or_undefined, no_answer, without, emptied, listed, keys_of, then_list, new_of}
 
 -- ---- the kinds
-abbrev pub is_map : Kind → Bool
-is_map kind.Map = true
-is_map _ = false
-
-abbrev pub is_set : Kind → Bool
-is_set kind.Set = true
-is_set _ = false
-
 abbrev pub is_map_or_set : Kind → Bool
 is_map_or_set of = is_map of || is_set of
 

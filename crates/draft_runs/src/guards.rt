@@ -10,7 +10,6 @@ ghost use Rattle.draft_runs.specs.Asked.{IsEntry, IsKeyed, IsKeyedObject, HasIte
 
 use crate::run::Run;
 use crate::words::Operand;
-use draft_slots::{is_long, is_reserved};
 use run_heap::Rv;
 use std::alloc::{AllocError, Global};
 use value_model::{Key, Kind};
@@ -49,7 +48,7 @@ impl Run {
         ensures { IsTrue result → IsKeyed (heap self.now.store self.now.scope) v.now }
     {
         match self.container(v) {
-            Some(kind) => !is_list(kind),
+            Some(kind) => !kind.is_list(),
             None => false,
         }
     }
@@ -73,7 +72,7 @@ impl Run {
         ensures { IsTrue result → IsKeyedObject (heap self.now.store self.now.scope) v.now }
     {
         match self.object(v) {
-            Some(kind) => !is_list(kind),
+            Some(kind) => !kind.is_list(),
             None => false,
         }
     }
@@ -85,7 +84,7 @@ impl Run {
         ensures { IsTrue result → HasItems (heap self.now.store self.now.scope) v.now from to }
     {
         match self.object(v) {
-            Some(kind) => { is_list(kind) && from <= to && to <= self.scope.count(&self.store, v) }
+            Some(kind) => { kind.is_list() && from <= to && to <= self.scope.count(&self.store, v) }
             None => false,
         }
     }
@@ -98,7 +97,9 @@ impl Run {
         ensures { IsTrue result → MaySet (heap self.now.store self.now.scope) of.now key.now value.now }
     {
         match self.object(of) {
-            Some(kind) => { !is_list(kind) && self.is_stored(value) && may_stand(kind, key, value) }
+            Some(kind) => {
+                !kind.is_list() && self.is_stored(value) && may_stand(kind, key, value)
+            }
             None => false,
         }
     }
@@ -135,13 +136,6 @@ impl Run {
     }
 }
 
-/// Whether the kind is a list.
-pub(crate) fn is_list(kind: Kind) -> bool
-    ensures { result ≡ spec.is_list kind }
-{
-    matches!(kind, Kind::List)
-}
-
 /// Whether a value may be set at a key in an object of a kind.
 pub(crate) fn may_stand(kind: Kind, key: &Key, value: &Rv) -> bool
     ensures { result ≡ sound.may_stand kind key.now value.now }
@@ -149,7 +143,7 @@ pub(crate) fn may_stand(kind: Kind, key: &Key, value: &Rv) -> bool
     match kind {
         Kind::Obj => is_name(key),
         Kind::List => matches!(key, Key::Null),
-        Kind::Map => !is_long_name(key),
+        Kind::Map => !key.is_long(),
         Kind::Set => is_member(key, value),
     }
 }
@@ -159,7 +153,7 @@ fn is_name(key: &Key) -> bool
     ensures { (v : _) → result ≡ sound.may_stand kind_model.Obj key.now v }
 {
     match key {
-        Key::Text(text) => !is_reserved(text) && !is_long(text),
+        Key::Text(text) => !text.is_reserved() && !text.is_long(),
         _ => false,
     }
 }
@@ -169,17 +163,7 @@ fn is_member(key: &Key, value: &Rv) -> bool
     ensures { result ≡ sound.may_stand kind_model.Set key.now value.now }
 {
     match value {
-        Rv::Prim(member) => key.compare(member).is_eq() && !is_long_name(key),
-        _ => false,
-    }
-}
-
-/// Whether the key is a text of more than 1,024 bytes.
-fn is_long_name(key: &Key) -> bool
-    ensures { result ≡ is_long_key key.now }
-{
-    match key {
-        Key::Text(text) => is_long(text),
+        Rv::Prim(member) => key.compare(member).is_eq() && !key.is_long(),
         _ => false,
     }
 }

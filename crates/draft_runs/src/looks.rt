@@ -5,7 +5,6 @@ ghost use Rattle.run_heap.specs.Operations as spec;
 ghost use Rattle.run_heap.specs.Sound.{AllOwned, IsContainer};
 ghost use Rattle.draft_core.specs.Seen.{heap, Stands};
 
-use crate::guards::is_list;
 use crate::run::Run;
 use crate::texts::{json_of, kind_name, not_called, path_text, peek_text, source_text, yes_or_no};
 use crate::words::Operand;
@@ -213,7 +212,7 @@ impl Run {
         requires in_range { i < spec.count (heap self.now.store self.now.scope) of.now }
     {
         let value = peek_text(alloc, &self.scope.peek(&self.store, of, i))?;
-        if is_list(kind) {
+        if kind.is_list() {
             return Ok(value);
         }
         let key = json_of(alloc, self.scope.key_at(&self.store, of, i))?;

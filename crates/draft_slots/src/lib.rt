@@ -3,11 +3,9 @@
 
 mod change;
 mod look;
-mod names;
 mod nodes;
 mod table;
 
 pub use change::{Change, rewrite};
 pub use look::{Look, Peek};
-pub use names::{is_long, is_reserved};
 pub use nodes::node_content;

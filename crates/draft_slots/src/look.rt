@@ -10,7 +10,6 @@ ghost use Rattle.run_heap.specs.Values.{same};
 ghost use Rattle.draft_slots.specs.Looks.{looked, IsLook, kind_in};
 ghost use Rattle.draft_slots.specs.Peeks.{IsKept};
 
-use crate::names::is_reserved;
 use crate::nodes::{copy_key, node_position, node_same, node_value};
 use crate::table::position;
 use node_store::{Cell, Kind, NodeId, Store};
@@ -182,7 +181,7 @@ impl<'a> Look<'a> {
         requires text { key.now ≡ key_model.Text text.now }
         ensures { Answers result (spec.entry key.now kind.Obj (rows_of (looked store.now self.now))) }
     {
-        if is_reserved(text) {
+        if text.is_reserved() {
             return Err(DraftFault::ReservedKey);
         }
         match self.find(store, key) {

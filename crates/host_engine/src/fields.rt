@@ -10,7 +10,7 @@ ghost use Rattle.host_engine.specs.Drafts.{plain_of, plain_cell, plain_rows};
 ghost use Rattle.host_engine.specs.Kept.{IsFlatState, of_field, number_of, state_of, table_at};
 
 use draft_core::{Cell, NodeId, Rv, Store};
-use plain_values::{Key, Safe, key_weight};
+use plain_values::{Key, Safe, capped, key_weight};
 use std::alloc::{AllocError, Global};
 
 /// An integer under its key.
@@ -110,11 +110,4 @@ fn fields_weight(fields: &[Field]) -> u64
         total = capped(total, capped(key_weight(f.key), 1));
     }
     total
-}
-
-/// The sum, or 2^63 where that is more.
-pub fn capped(a: u64, b: u64) -> u64
-    ensures { result ≡ min (a + b) (2 ^ 63) }
-{
-    a.saturating_add(b).min(1 << 63)
 }

@@ -8,8 +8,8 @@ ghost use Rattle.host_machine.specs.Differences.{same, patch as patch_of, differ
 ghost use Rattle.host_engine.specs.Kept.{of_field, number_of};
 ghost use Rattle.host_engine.specs.Pairs.{first_patches};
 
-use crate::fields::{Field, capped};
-use plain_values::{Key, Op, Patch, Patches, Path, Safe, Val, key_weight, weight};
+use crate::fields::Field;
+use plain_values::{Key, Op, Patch, Patches, Path, Safe, Val, capped, key_weight, weight};
 use std::alloc::{AllocError, Global};
 use std::cmp::Ordering;
 

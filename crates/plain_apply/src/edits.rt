@@ -16,29 +16,6 @@ use crate::tables::{put_entry, put_field, put_member, remove_entry, remove_field
 use std::alloc::Global;
 use values::{Entry, Field, Key, Op, PatchWhy, Safe, Text, Val, ValNode};
 
-const LONGEST: usize = 1024;
-
-pub(crate) fn is_reserved(name: &str) -> bool
-    ensures { result ≡ is_reserved_text name.now }
-{
-    name == "__proto__" || name == "constructor" || name == "prototype"
-}
-
-fn is_long(key: &Key) -> bool
-    ensures { result ≡ is_long_key key.now }
-{
-    match key {
-        Key::Text(text) => text.as_str().len() > LONGEST,
-        _ => false,
-    }
-}
-
-fn is_long_name(name: &Text) -> bool
-    ensures { result ≡ is_long_key (key_of.Text name.now) }
-{
-    name.as_str().len() > LONGEST
-}
-
 // ---- objects
 
 pub(crate) fn in_object(
@@ -69,13 +46,13 @@ fn at_name(
     ensures given { GivesBy (λ fs. map of_field fs.items) result (spec.in_object op (key_of.Text name.now) value.now (map of_field fields.items)) }
     ensures sorted { IfOk result (λ fs. IsTrue (is_sorted key_cmp (map of_field fs.items))) }
 {
-    if is_reserved(name.as_str()) {
+    if name.is_reserved() {
         return Err(EditFault::Refused(PatchWhy::ReservedKey));
     }
     match op {
         Op::Remove => Ok(field_removed(fields, name)),
         Op::Add | Op::Replace => {
-            if is_long_name(name) {
+            if name.is_long() {
                 return Err(EditFault::Refused(PatchWhy::KeyTooLong));
             }
             match value {
@@ -127,7 +104,7 @@ pub(crate) fn in_map(
     match op {
         Op::Remove => Ok(entry_removed(entries, step)),
         Op::Add | Op::Replace => {
-            if is_long(step) {
+            if step.is_long() {
                 return Err(EditFault::Refused(PatchWhy::KeyTooLong));
             }
             match value {
@@ -195,7 +172,7 @@ fn added(alloc: Global, members: Vec<Key>, value: &Val) -> Result<Vec<Key>, Edit
 {
     match &value.node {
         ValNode::Prim(key) => {
-            if is_long(key) {
+            if key.is_long() {
                 Err(EditFault::Refused(PatchWhy::KeyTooLong))
             } else {
                 member_added(alloc, members, key)

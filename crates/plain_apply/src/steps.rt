@@ -10,7 +10,7 @@ ghost use Rattle.value_model.specs.declared.key.Key.TheVariants as key_of;
 ghost use Rattle.value_model.specs.declared.kind.Kind.TheVariants as kind;
 ghost use Rattle.values.specs.Seen.{of_field, of_entry, of_item};
 
-use crate::edits::{in_map, in_object, in_set, is_reserved};
+use crate::edits::{in_map, in_object, in_set};
 use crate::fault::EditFault;
 use crate::lists::in_list;
 use std::alloc::Global;
@@ -123,7 +123,7 @@ fn inside_field(
     requires { IsTrue (is_sorted key_cmp (map of_field fields.items)) }
     ensures { Gives result (below kind.Obj op value.now (key_of.Text name.now) (drop next path.now) (map of_field fields.items)) }
 {
-    if is_reserved(name.as_str()) {
+    if name.is_reserved() {
         return Err(EditFault::Refused(PatchWhy::ReservedKey));
     }
     let Ok(i) = field_place(&fields, name) else {

@@ -10,5 +10,5 @@ pub use refusal::Refusal;
 pub use reply::Reply;
 pub use values::{
     Entry, Field, Key, Kind, Limit, Op, Pair, Patch, PatchWhy, Patches, Path, Safe, Text,
-    TextFault, Val, ValNode, depth, key_weight, values, weight,
+    TextFault, Val, ValNode, capped, depth, key_weight, values, weight,
 };

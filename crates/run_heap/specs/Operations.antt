@@ -14,6 +14,7 @@ use Rattle.value_model.specs.Plain.{Plain}
 use Rattle.numbered.specs.Loading.{numbered, post_order}
 use Rattle.numbered.specs.Store.{tree_at}
 use Rattle.numbered.specs.Tree.{Tree, Branches, prim, node, none, branch, place}
+use Rattle.value_model.specs.Kinds.{is_object, is_list}
 use Rattle.run_heap.specs.declared.value.Rv.{Rv}
 use Rattle.run_heap.specs.declared.value.Rv.TheVariants.{Undefined, Prim, Obj, Frozen}
 use Rattle.run_heap.specs.declared.content.Content.{Content}
@@ -141,10 +142,6 @@ put_at k v h of = edited (putting k v) h of (v ∷ [])
 abbrev pub without : Key → Rows → Rows
 without k t = where_key key_cmp (λ j. not (eq_by_cmp key_cmp k j)) t
 
-abbrev pub is_object : Kind → Bool
-is_object kind.Obj = true
-is_object _ = false
-
 -- an object's entry by a text
 abbrev pub is_text_place : Key → Kind → Bool
 is_text_place (key.Text s) kind = is_object kind
@@ -176,10 +173,6 @@ then_list h (Err e) = Err e
 
 abbrev pub keys : Heap → Rv → Result (Heap × Rv) DraftFault
 keys h of = then_list h (read keys_shown h of [])
-
-abbrev pub is_list : Kind → Bool
-is_list kind.List = true
-is_list _ = false
 
 abbrev pub list_length : Content → Result ℕ DraftFault
 list_length c = unless ((not (is_list c.kind), fault.TypeMismatch) ∷ []) (Ok (length c.table))

@@ -1,4 +1,5 @@
 ghost use Rattle.std.specs.Prelude.{◌≡◌, IfOk};
+ghost use Rattle.run_heap.specs.Operations as operations;
 ghost use Rattle.run_heap.specs.Values as spec;
 
 use node_store::NodeId;
@@ -51,6 +52,26 @@ impl Rv {
             Rv::Prim(key) => Ok(Rv::Prim(key.copy(alloc)?)),
             Rv::Obj(object) => Ok(Rv::Obj(*object)),
             Rv::Frozen(id) => Ok(Rv::Frozen(*id)),
+        }
+    }
+
+    /// Whether it is `Undefined`.
+    pub fn is_undefined(&self) -> bool
+        ensures { result ≡ operations.is_undefined self.now }
+    {
+        match self {
+            Rv::Undefined => true,
+            Rv::Prim(_) | Rv::Obj(_) | Rv::Frozen(_) => false,
+        }
+    }
+
+    /// Whether it is a container of a frozen state.
+    pub fn is_frozen(&self) -> bool
+        ensures { result ≡ operations.is_frozen self.now }
+    {
+        match self {
+            Rv::Frozen(_) => true,
+            Rv::Undefined | Rv::Prim(_) | Rv::Obj(_) => false,
         }
     }
 

@@ -6,8 +6,6 @@ ghost use Rattle.values.specs.Seen.{of_fields, of_entries, of_items, of_members}
 
 use values::{Entry, Field, Key, Text, Val, ValNode};
 
-const LONGEST: usize = 1024;
-
 /// What is wrong with some key inside a value.
 #[derive(Clone, Copy, Debug, Drop)]
 pub(crate) struct KeyFaults {
@@ -47,8 +45,8 @@ fn in_fields(fields: &[Field]) -> KeyFaults
     let mut reserved = false;
     for f in fields {
         let inside = key_faults(&f.value);
-        long = long | is_long_text(&f.key) | inside.long;
-        reserved = reserved | is_reserved(f.key.as_str()) | inside.reserved;
+        long = long | f.key.is_long() | inside.long;
+        reserved = reserved | f.key.is_reserved() | inside.reserved;
     }
     KeyFaults { long, reserved }
 }
@@ -79,7 +77,7 @@ fn in_entries(entries: &[Entry]) -> KeyFaults
     let mut reserved = false;
     for e in entries {
         let inside = key_faults(&e.value);
-        long = long | is_long(&e.key) | inside.long;
+        long = long | e.key.is_long() | inside.long;
         reserved = reserved | inside.reserved;
     }
     KeyFaults { long, reserved }
@@ -92,31 +90,10 @@ fn in_members(members: &[Key]) -> KeyFaults
 {
     let mut long = false;
     for k in members {
-        long = long | is_long(k);
+        long = long | k.is_long();
     }
     KeyFaults {
         long,
         reserved: false,
     }
-}
-
-fn is_long(k: &Key) -> bool
-    ensures { result ≡ spec.is_long_key k.now }
-{
-    match k {
-        Key::Text(text) => is_long_text(text),
-        _ => false,
-    }
-}
-
-fn is_long_text(text: &Text) -> bool
-    ensures { result ≡ spec.is_long_text text.now }
-{
-    text.as_str().len() > LONGEST
-}
-
-fn is_reserved(name: &str) -> bool
-    ensures { result ≡ spec.is_reserved_text name.now }
-{
-    name == "__proto__" || name == "constructor" || name == "prototype"
 }

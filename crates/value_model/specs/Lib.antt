@@ -1,4 +1,5 @@
 pub mod Code
+pub mod Kinds
 pub mod Limits
 pub mod Order
 pub mod Places

@@ -1,4 +1,5 @@
 ghost use Rattle.std.specs.Prelude.{◌≡◌, IfOk};
+ghost use Rattle.value_model.specs.Limits.{is_long_key};
 ghost use Rattle.value_model.specs.Order.{key_cmp, rank as rank_of};
 
 use crate::safe::Safe;
@@ -40,6 +41,16 @@ impl Key {
             Key::Bool(b) => Ok(Key::Bool(*b)),
             Key::Int(n) => Ok(Key::Int(*n)),
             Key::Text(text) => Ok(Key::Text(text.copy(alloc)?)),
+        }
+    }
+
+    /// Whether it is a text of more than 1,024 bytes, which no table takes as a key.
+    pub fn is_long(&self) -> bool
+        ensures { result ≡ is_long_key self.now }
+    {
+        match self {
+            Key::Text(text) => text.is_long(),
+            _ => false,
         }
     }
 

@@ -19,5 +19,5 @@ pub use laws::{law_keys_are_told_apart, law_same_entries, law_set_key, law_unset
 pub use limit::Limit;
 pub use op::Op;
 pub use patch_why::PatchWhy;
-pub use safe::Safe;
+pub use safe::{MAX_SAFE, Safe};
 pub use text::{Text, TextFault};

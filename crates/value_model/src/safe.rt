@@ -3,6 +3,9 @@ ghost use Rattle.value_model.specs.Safe.{IsSafe};
 
 use std::marker::Model;
 
+/// The greatest integer that is safe, 2^53 - 1: `Number.MAX_SAFE_INTEGER` of ECMA-262.
+pub const MAX_SAFE: i64 = 9_007_199_254_740_991;
+
 /// An integer of magnitude at most 2^53 - 1, as `Number.isSafeInteger` of ECMA-262 has it.
 ///
 /// A contract sees it as the integer.
@@ -30,7 +33,7 @@ impl Safe {
         ensures some { IfSome result (λ s. s ≡ n) }
         ensures none { IsNone result ↔ (¬ IsSafe n) }
     {
-        if n >= -9007199254740991 && n <= 9007199254740991 {
+        if n >= -MAX_SAFE && n <= MAX_SAFE {
             Some(Safe { n })
         } else {
             None

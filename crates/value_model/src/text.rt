@@ -1,9 +1,16 @@
 ghost use Rattle.std.specs.Prelude.{◌≡◌, ◌<◌, ◌≤◌, ◌^◌, length, IfOk, IsErrOf};
+ghost use Rattle.value_model.specs.Limits.{is_long_text, is_reserved_text};
 
 use std::alloc::{AllocError, Global};
 use std::marker::Model;
 use std::rc::Rc;
 use thiserror::Error;
+
+/// The most bytes of a text.
+const MAX_BYTES: usize = 1 << 20;
+
+/// The most bytes of a text that is a key of an object or a Map, or a member of a Set.
+const MAX_KEY_BYTES: usize = 1024;
 
 /// Why there is no such text.
 #[derive(Debug, Drop, Error)]
@@ -42,7 +49,7 @@ impl Text {
         ensures long { 2 ^ 20 < length s.now → result ≡ Err TextFault.TooLong }
         ensures only { IsErrOf result TextFault.TooLong → 2 ^ 20 < length s.now }
     {
-        if s.len() > 1048576 {
+        if s.len() > MAX_BYTES {
             return Err(TextFault::TooLong);
         }
         let text = String::from_str(alloc, s)?;
@@ -67,6 +74,21 @@ impl Text {
         ensures short { length self.now ≤ 2 ^ 20 }
     {
         self.text.as_ref().as_str()
+    }
+
+    /// Whether it has more than 1,024 bytes, so that no key may be it.
+    pub fn is_long(&self) -> bool
+        ensures { result ≡ is_long_text self.now }
+    {
+        self.as_str().len() > MAX_KEY_BYTES
+    }
+
+    /// Whether it is a name through which a script could reach a prototype: `__proto__`, `constructor` or `prototype`.
+    pub fn is_reserved(&self) -> bool
+        ensures { result ≡ is_reserved_text self.now }
+    {
+        let name = self.as_str();
+        name == "__proto__" || name == "constructor" || name == "prototype"
     }
 }
 

@@ -6,7 +6,7 @@ mod measures;
 mod patch;
 mod val;
 
-pub use measures::{depth, key_weight, values, weight};
+pub use measures::{capped, depth, key_weight, values, weight};
 pub use patch::{Pair, Patch, Patches, Path};
 pub use val::{Entry, Field, Val, ValNode};
 pub use value_model::{Key, Kind, Limit, Op, PatchWhy, Safe, Text, TextFault};

@@ -77,7 +77,7 @@ pub fn key_weight(k: &Key) -> u64
 }
 
 /// The sum, or 2^63 where it is more.
-fn capped(a: u64, b: u64) -> u64
+pub fn capped(a: u64, b: u64) -> u64
     ensures { result ≡ min (a + b) (2 ^ 63) }
 {
     a.saturating_add(b).min(CAP)

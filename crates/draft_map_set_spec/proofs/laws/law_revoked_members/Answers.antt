@@ -3,7 +3,8 @@ use Rattle.run_heap.specs.declared.fault.DraftFault.{DraftFault}
 use Rattle.run_heap.specs.declared.fault.DraftFault.TheVariants as fault
 use Rattle.run_heap.proofs.Foreign.{edit_revokes, first_cause, list_revokes, ok_other}
 use Rattle.run_heap.specs.Operations.{Rows, is_undefined, keys_of, listed, read}
-use Rattle.draft_map_set_spec.specs.MapSet.{adding, is_long, is_map, is_map_or_set, is_set, of_kind, setting, value_of}
+use Rattle.draft_map_set_spec.specs.MapSet.{adding, is_long, is_map_or_set, of_kind, setting, value_of}
+use Rattle.value_model.specs.Kinds.{is_map, is_set}
 use Rattle.draft_map_set_spec.proofs.Revoked.{by_other, clear_revokes, delete_revokes, has_revokes, look_revokes}
 use Rattle.draft_map_set_spec.proofs.laws.law_revoked_members.Goals as goal
 
