@@ -1,7 +1,7 @@
 #!/usr/bin/env python3
 """Prints how fast values of 1 MB are read and printed as JSON, beside Python's `json` module on the same bytes.
 
-Run it at the top of the repository after `rt run` in crates/json_bench, or let it build the program itself.
+Run it at the top of the repository after `rt run` in crates/bench, or let it build the program itself.
 Each line: the shape, then MB/s for reading and for printing of this project and of Python (best of 15 turns each).
 """
 import json
@@ -14,8 +14,8 @@ import tempfile
 import time
 
 TOP = os.path.dirname(os.path.dirname(os.path.dirname(os.path.abspath(__file__))))
-CRATE = os.path.join(TOP, "crates", "json_bench")
-PROGRAM = os.path.join(CRATE, "out", "json_bench")
+CRATE = os.path.join(TOP, "crates", "bench")
+PROGRAM = os.path.join(CRATE, "out", "bench")
 SIZE = 1_000_000
 TURNS = 15
 
@@ -56,14 +56,14 @@ def python_times(text):
 
 
 def own_times(path):
-    words = subprocess.run([PROGRAM, "time", path], check=True, capture_output=True, text=True).stdout.split()
+    words = subprocess.run([PROGRAM, "json", path], check=True, capture_output=True, text=True).stdout.split()
     return int(words[0]) / 1e6, int(words[1]) / 1e6
 
 
 def main():
     if not os.path.exists(PROGRAM):
         if shutil.which("rt") is None:
-            print("skipped: there is no built crates/json_bench, and no rt to build it")
+            print("skipped: there is no built crates/bench, and no rt to build it")
             return 0
         subprocess.run(["rt", "run"], cwd=CRATE, check=True, stdin=subprocess.DEVNULL, stdout=subprocess.DEVNULL)
     print("%-10s %10s %10s %10s %10s" % ("MB/s", "read", "python", "print", "python"))

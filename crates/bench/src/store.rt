@@ -1,18 +1,12 @@
 //! How fast the node store loads and unfolds, and what it holds at its limits.
-//!
-//! With no word after its name it loads and unfolds a small list. With `speed` it prints nodes a second for a list of
-//! 300,000 empty objects; with `value` it only makes that list, with `load` it makes and loads it. With `full` it fills a
-//! store by numbers, by weight and by both.
-#![tactic(auto)]
-
 ghost use Rattle.std.specs.Prelude.{◌≡◌, ◌≤◌, None, length};
 ghost use Rattle.value_model.specs.Limits.{state_limit};
 
+use crate::clock::micros;
 use anyhow::Context;
 use node_store::{Store, StoreFault};
 use std::alloc::{AllocError, Global};
-use std::env;
-use std::time::{Duration, Instant};
+use std::time::Instant;
 use value_checks::check_state;
 use values::{Key, Val, ValNode};
 
@@ -77,12 +71,6 @@ fn filled(alloc: Global, many: u32, rest: u32, heavy: u32, last: u32) -> anyhow:
     Ok(store)
 }
 
-/// A time in microseconds.
-fn micros(time: Duration) -> u64 {
-    let all = time.as_micros();
-    if all < 1 << 60 { all as u64 } else { 1 << 60 }
-}
-
 /// A store that is full, as a line of text.
 fn report(
     rt: &HostRuntime,
@@ -143,11 +131,13 @@ fn small(rt: &HostRuntime) -> anyhow::Result<()> {
     Ok(())
 }
 
-fn main(rt: HostRuntime) -> anyhow::Result<()> {
+/// What the word asks for: `speed` prints nodes a second for a list of 300,000 empty objects; with `value` that list is only
+/// made, with `load` it is made and loaded; `full` fills a store by numbers, by weight and by both. Another word loads and
+/// unfolds a small list.
+pub(crate) fn run(rt: &HostRuntime, word: &str) -> anyhow::Result<()> {
     let alloc = rt.alloc();
-    let word = env::args(&rt)?.nth(1);
-    match word.as_ref().map_or("", |w| w.as_str()) {
-        "speed" => speed(&rt),
+    match word {
+        "speed" => speed(rt),
         "value" => {
             let _v = objects(alloc, OBJECTS)?;
             Ok(())
@@ -157,10 +147,10 @@ fn main(rt: HostRuntime) -> anyhow::Result<()> {
             Ok(())
         }
         "full" => {
-            report(&rt, "by numbers", 6, 297_144, 0, 0)?;
-            report(&rt, "by weight", 0, 0, 32, 0)?;
-            report(&rt, "by both", 6, 297_115, 28, 66)
+            report(rt, "by numbers", 6, 297_144, 0, 0)?;
+            report(rt, "by weight", 0, 0, 32, 0)?;
+            report(rt, "by both", 6, 297_115, 28, 66)
         }
-        _ => small(&rt),
+        _ => small(rt),
     }
 }

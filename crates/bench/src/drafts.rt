@@ -1,20 +1,15 @@
 //! How fast a scope reads and writes drafts of a list of 100,000 objects.
-//!
-//! With no word after its name it reads and writes 100 of them; with `speed` it prints reads and writes a second where one in
-//! a hundred is touched, and where all are.
-#![tactic(auto)]
-
 ghost use Rattle.std.specs.Prelude.{◌≡◌, IfOk};
 ghost use Rattle.run_heap.specs.Sound.{Owned};
 ghost use Rattle.draft_core.specs.Seen.{heap, Stands};
 
+use crate::clock::micros;
 use anyhow::Context;
 use draft_core::{Scope, ScopeMint};
 use node_store::Store;
 use run_heap::Rv;
 use std::alloc::Global;
-use std::env;
-use std::time::{Duration, Instant};
+use std::time::Instant;
 use value_checks::check_state;
 use value_model::{Key, Safe, Text};
 use values::{Field, Val, ValNode};
@@ -48,16 +43,6 @@ fn object(alloc: Global) -> anyhow::Result<Val> {
     Ok(Val {
         node: ValNode::Obj(fields),
     })
-}
-
-/// A time in microseconds, at least one.
-fn micros(time: Duration) -> u64 {
-    let all = time.as_micros();
-    if all < 1 << 60 {
-        all.max(1) as u64
-    } else {
-        1 << 60
-    }
 }
 
 /// The draft of the i-th object.
@@ -169,18 +154,18 @@ fn small(rt: &HostRuntime) -> anyhow::Result<()> {
     let mut scope = Scope::begin(alloc, mint.take(), &store, root)?;
     write_all(rt, &store, &mut scope, 10, 10)?;
     read_all(rt, &store, &mut scope, 10, 10)?;
-    println!(*rt; "written: {}", scope.any_written())?;
+    println!(*rt; "drafts written: {}", scope.any_written())?;
     Ok(())
 }
 
-fn main(rt: HostRuntime) -> anyhow::Result<()> {
-    let alloc = rt.alloc();
-    let word = env::args(&rt)?.nth(1);
-    match word.as_ref().map_or("", |w| w.as_str()) {
+/// What the word asks for: `speed` prints reads and writes a second where one object in a hundred is touched, and where all
+/// are. Another word reads and writes ten of a hundred.
+pub(crate) fn run(rt: &HostRuntime, word: &str) -> anyhow::Result<()> {
+    match word {
         "speed" => {
-            report(&rt, "one in a hundred", OBJECTS, OBJECTS / 100, 100)?;
-            report(&rt, "all", OBJECTS, OBJECTS, 1)
+            report(rt, "one in a hundred", OBJECTS, OBJECTS / 100, 100)?;
+            report(rt, "all", OBJECTS, OBJECTS, 1)
         }
-        _ => small(&rt),
+        _ => small(rt),
     }
 }

@@ -1,16 +1,11 @@
 //! How fast a value of about 1 MB is written and read as bytes.
-//!
-//! With no word after its name it writes and reads the value once, and prints how many bytes that is. With a number of
-//! rounds it prints the speed both ways.
-#![tactic(auto)]
-
 ghost use Rattle.std.specs.Prelude.{◌≡◌, None};
 ghost use Rattle.value_model.specs.Limits.{value_limit};
 
+use crate::clock::micros;
 use anyhow::Context;
 use std::alloc::{AllocError, Global};
-use std::env;
-use std::time::{Duration, Instant};
+use std::time::Instant;
 use value_bytes::{Bytes, put_value, take_value};
 use values::Val;
 
@@ -76,33 +71,27 @@ fn read(alloc: Global, bytes: &[u8], rounds: u32) -> Result<u64, AllocError> {
     Ok(total)
 }
 
-fn micros(time: Duration) -> u64 {
-    u64::try_from(time.as_micros()).unwrap_or(u64::MAX)
-}
-
-fn main(rt: HostRuntime) -> anyhow::Result<()> {
+/// Writes and reads the value so many times and prints the speed both ways; with no rounds once, and prints how many bytes
+/// that is.
+pub(crate) fn run(rt: &HostRuntime, rounds: u32) -> anyhow::Result<()> {
     let alloc = rt.alloc();
-    let rounds = match env::args(&rt)?.nth(1) {
-        Some(word) => word.parse::<u32>()?,
-        None => 0,
-    };
     let bytes = sample(alloc)?;
     let (value, _) = take_value(alloc, &bytes)?.context("the value is spelled")?;
     if rounds == 0 {
-        println!(rt;
+        println!(*rt;
             "{} bytes written, {} read",
             write(alloc, &value, 1)?,
             read(alloc, &bytes, 1)?
         )?;
         return Ok(());
     }
-    let start = Instant::now(&rt)?;
+    let start = Instant::now(rt)?;
     let written = write(alloc, &value, rounds)?;
-    let to_write = micros(start.elapsed(&rt)?);
-    let start = Instant::now(&rt)?;
+    let to_write = micros(start.elapsed(rt)?);
+    let start = Instant::now(rt)?;
     let taken = read(alloc, &bytes, rounds)?;
-    let to_read = micros(start.elapsed(&rt)?);
-    println!(rt;
+    let to_read = micros(start.elapsed(rt)?);
+    println!(*rt;
         "write {} MB/s, read {} MB/s",
         written / to_write.max(1),
         taken / to_read.max(1)

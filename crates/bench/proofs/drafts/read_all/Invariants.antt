@@ -1,5 +1,5 @@
 use Rattle.draft_core.specs.Seen.{Stands}
-use Rattle.draft_bench.proofs.write_all.Given as goal
+use Rattle.bench.proofs.drafts.read_all.Given as goal
 
 abbrev pub invariant-loop-i : goal.invariant-loop-i
 invariant-loop-i l = Stands l.store l.scope

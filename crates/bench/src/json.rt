@@ -1,19 +1,20 @@
+//! How fast JSON is read and printed.
 use std::alloc::Global;
-use std::io;
 use std::time::{Clock, Instant};
+use std::{fs, io};
 use value_json::{read_value, write_value};
 
 const TURNS: u32 = 15;
 
 /// The best times, in microseconds.
 #[derive(Clone, Copy, Drop)]
-pub struct Times {
-    pub read: u128,
-    pub printed: u128,
+struct Times {
+    read: u128,
+    printed: u128,
 }
 
 /// How long the value that the bytes are takes to be read, and to be printed.
-pub fn measure(clock: &impl Clock, alloc: Global, bytes: &[u8]) -> io::Result<Times> {
+fn measure(clock: &impl Clock, alloc: Global, bytes: &[u8]) -> io::Result<Times> {
     let mut best = Times {
         read: u128::MAX,
         printed: u128::MAX,
@@ -35,4 +36,12 @@ pub fn measure(clock: &impl Clock, alloc: Global, bytes: &[u8]) -> io::Result<Ti
         }
     }
     Ok(best)
+}
+
+/// Prints how long the value in a file takes to be read, and to be printed, in microseconds.
+pub(crate) fn run(rt: &HostRuntime, path: &str) -> anyhow::Result<()> {
+    let bytes = fs::read(rt, path)?;
+    let times = measure(rt, rt.alloc(), bytes.as_slice())?;
+    println!(*rt; "{} {}", times.read, times.printed)?;
+    Ok(())
 }

@@ -1,15 +1,10 @@
-//! How fast a script is read.
-//!
-//! With no word after its name it reads a script of about 2^16 bytes once, and prints how many reducers that is. With a
-//! number of rounds it reads a script of about 2^24 bytes so many times, and prints the speed.
-#![tactic(auto)]
-
+//! How fast a script is cut into tokens and read as a program.
+use crate::clock::micros;
 use anyhow::Context;
 use js_lex::lex;
 use js_parse::{Program, parse};
 use std::alloc::{AllocError, Global};
-use std::env;
-use std::time::{Duration, Instant};
+use std::time::Instant;
 
 /// A reducer of this number.
 fn push_reducer(alloc: Global, out: &mut String, number: u32) -> Result<(), AllocError> {
@@ -42,31 +37,28 @@ fn read(alloc: Global, source: &[u8]) -> anyhow::Result<Program> {
     Ok(parse(alloc, source, &tokens).context("a program")?)
 }
 
-fn micros(time: Duration) -> u64 {
-    u64::try_from(time.as_micros()).unwrap_or(u64::MAX)
-}
-
-fn main(rt: HostRuntime) -> anyhow::Result<()> {
+/// Reads a script of about 2^24 bytes so many times and prints the speed; with no rounds one of about 2^16 bytes once, and
+/// prints how many reducers that is.
+pub(crate) fn run(rt: &HostRuntime, rounds: u32) -> anyhow::Result<()> {
     let alloc = rt.alloc();
-    let Some(word) = env::args(&rt)?.nth(1) else {
+    if rounds == 0 {
         let source = sample(alloc, 1 << 16)?;
         let program = read(alloc, source.as_bytes())?;
-        println!(rt;
+        println!(*rt;
             "{} bytes, {} reducers",
             source.len(),
             program.reducers.len()
         )?;
         return Ok(());
-    };
-    let rounds = word.parse::<u32>()?;
+    }
     let source = sample(alloc, 1 << 24)?;
     let mut reducers = 0usize;
-    let start = Instant::now(&rt)?;
+    let start = Instant::now(rt)?;
     for _ in 0..rounds {
         reducers = read(alloc, source.as_bytes())?.reducers.len();
     }
-    let time = micros(start.elapsed(&rt)?);
+    let time = micros(start.elapsed(rt)?);
     let bytes = (source.len() as u64).saturating_mul(u64::from(rounds));
-    println!(rt; "{reducers} reducers, {} MB/s", bytes / time.max(1))?;
+    println!(*rt; "{reducers} reducers, {} MB/s", bytes / time.max(1))?;
     Ok(())
 }
