@@ -1,5 +1,5 @@
 -- Whether a draft was written, by the drafts that have a table: laws.
-use Rattle.std.proofs.Common.{◌≡◌, ◌≢◌, ℕ, zero, suc, ◌<◌, List, [], ◌∷◌, get_or, refl, ap, sym, ◌∙◌, subst, arith, Bool, true, false, cond}
+use Rattle.std.proofs.Common.{◌≡◌, ◌≢◌, ℕ, zero, suc, ◌<◌, List, [], ◌∷◌, length, get_or, refl, ap, sym, ◌∙◌, subst, arith, Bool, true, false, cond}
 use Rattle.std.specs.Prelude.{◌&&◌, ◌||◌, ◌==◌, nat_lt, Option, Some, None}
 use Rattle.std.specs.BTreeMap.{get, is_at}
 use Rattle.std.specs.List.{All}
@@ -17,7 +17,14 @@ use Rattle.draft_core.specs.declared.scope.Scope.{Scope}
 use Rattle.draft_core.proofs.Changed.{apart}
 use Rattle.draft_core.proofs.Kept.{drafts_are, marked_touched}
 use Rattle.draft_core.specs.Seen.{heap, Stands}
-use Rattle.draft_core.specs.Marks.{marks, Witness}
+use Rattle.draft_core.specs.Marks.{marks}
+
+-- a marked entry, where there is one
+record Witness (k : ℕ) (es : List (ℕ × Content)) : Type 0 where
+  index : ℕ
+  inside : index < length es
+  low : (d : ℕ × Content) → nat_lt (get_or es index d).0 k ≡ true
+  marked : (d : ℕ × Content) → (get_or es index d).1.written ≡ true
 
 any_true : (k n : ℕ) (p : ℕ → Bool) → n < k → p n ≡ true → any_below k p ≡ true
 any_true zero n p l h = absurd (omega arith)

@@ -32,7 +32,7 @@ inside_object-returns-in_default t c = no_text c.args.op c.args.value.now c.args
 pub inside_field-returns-in_default : goal.inside_field-returns-in_default
 inside_field-returns-in_default t c =
     let place = rw c.deref.ensures.value at c.in_default.ensures in
-    let free : is_reserved_text c.args.name.now ≡ false = ap is_reserved_text (sym c.as_str.ensures.value) ∙ sym c.is_reserved.ensures ∙ c.if-is_reserved.false in
+    let free : is_reserved_text c.args.name.now ≡ false = sym c.is_reserved.ensures ∙ c.if-is_reserved.false in
     no_name c.args.op c.args.value.now (drop c.args.next c.args.path.now) c.args.name.now c.args.fields.items c.in_default.field-0 free place c.requires
 
 pub inside_field-invariant_of-result : goal.inside_field-invariant_of-result
@@ -49,14 +49,14 @@ inside_field-invariant_of-result t c =
 pub inside_field-returns-in_ok-insert-in-Ok-patched : goal.inside_field-returns-in_ok-insert-in-Ok-patched
 inside_field-returns-in_ok-insert-in-Ok-patched t c =
     let place = rw c.deref.ensures.value at c.in-Ok.ensures in
-    let free : is_reserved_text c.args.name.now ≡ false = ap is_reserved_text (sym c.as_str.ensures.value) ∙ sym c.is_reserved.ensures ∙ c.if-is_reserved.false in
+    let free : is_reserved_text c.args.name.now ≡ false = sym c.is_reserved.ensures ∙ c.if-is_reserved.false in
     rw (c.in_ok-insert-in-Ok-patched.ensures.items, c.remove-key.ensures.items)
     (field_done c.args.op c.args.value.now (drop c.args.next c.args.path.now) c.args.name.now c.args.fields.items c.in-Ok.i c.remove-key.result c.in-Ok-patched.value free place c.remove-key.ensures.value c.in-Ok-patched.ensures)
 
 pub inside_field-returns-in-Err : goal.inside_field-returns-in-Err
 inside_field-returns-in-Err t c =
     let place = rw c.deref.ensures.value at c.in-Ok.ensures in
-    let free : is_reserved_text c.args.name.now ≡ false = ap is_reserved_text (sym c.as_str.ensures.value) ∙ sym c.is_reserved.ensures ∙ c.if-is_reserved.false in
+    let free : is_reserved_text c.args.name.now ≡ false = sym c.is_reserved.ensures ∙ c.if-is_reserved.false in
     rw (field_child c.args.op c.args.value.now (drop c.args.next c.args.path.now) c.args.name.now c.args.fields.items c.in-Ok.i c.remove-key.result free place c.remove-key.ensures.value)
     (fails_child c.in-Err.fault kind.Obj (key.Text c.args.name.now) (map of_field c.args.fields.items) _ c.in-Err.ensures)
 
