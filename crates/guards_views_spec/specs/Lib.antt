@@ -1,0 +1,5 @@
+pub mod Grants
+pub mod Reading
+pub mod ShapeCode
+pub mod Shapes
+pub mod Views

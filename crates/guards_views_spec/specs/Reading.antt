@@ -1,0 +1,250 @@
+-- Rules as a value: a shape for the states, views and grants. A value of another form is none.
+use Rattle.std.specs.Prelude.{ℤ, List, [], ◌∷◌, ◌++◌, Bool, true, false, ◌&&◌, not, Option, Some, None, codes, if◌then◌else◌}
+use Rattle.std.specs.Option.{option_map, option_or}
+use Rattle.std.specs.Str.{bytes_eq}
+use Rattle.std.specs.FinMap.Entries.{find}
+use Rattle.std.specs.Prelude.{ℕ}
+use Rattle.value_model.specs.declared.key.Key.{Key}
+use Rattle.value_model.specs.declared.key.Key.TheVariants as key
+use Rattle.value_model.specs.declared.words.Kind.{Kind}
+use Rattle.value_model.specs.declared.words.Kind.TheVariants as kind
+use Rattle.value_model.specs.Plain.{Plain, Entries, prim, node, none, entry, list_of}
+use Rattle.guards_views_spec.specs.declared.Simple.{Simple}
+use Rattle.guards_views_spec.specs.declared.Simple.TheVariants as simple
+use Rattle.guards_views_spec.specs.declared.Weigh.{Weigh}
+use Rattle.guards_views_spec.specs.declared.Weigh.TheVariants as weigh
+use Rattle.guards_views_spec.specs.declared.ViewRule.{ViewRule}
+use Rattle.guards_views_spec.specs.declared.GrantRule.{GrantRule}
+use Rattle.guards_views_spec.specs.Shapes.{Shape, Names, Choices, one, range, every, members, object, either, no_name, named, no_choice, choice}
+
+-- both answers together, where both are there
+abbrev pub both_of : {X Y Z : Type 0} → (X → Y → Z) → Option X → Option Y → Option Z
+both_of f None y = None
+both_of f (Some x) None = None
+both_of f (Some x) (Some y) = Some (f x y)
+
+-- what the second makes of the first's answer, where there is one
+abbrev pub and_then : {X Y : Type 0} → Option X → (X → Option Y) → Option Y
+and_then None f = None
+and_then (Some x) f = f x
+
+-- what each element is read as, where each is of the form
+abbrev pub all_read : {X Y : Type 0} → (X → Option Y) → List X → Option (List Y)
+all_read f [] = Some []
+all_read f (x ∷ xs) = both_of (λ y ys. y ∷ ys) (f x) (all_read f xs)
+
+-- the elements of a list
+abbrev pub elements : Plain → Option (List (Key × Plain))
+elements (node kind.List es) = Some (list_of es)
+elements _ = None
+
+-- the members of an object, by their names
+abbrev pub fields : Plain → Option (List (Key × Plain))
+fields (node kind.Obj es) = Some (list_of es)
+fields _ = None
+
+-- a text
+abbrev pub text_of : Plain → Option (List ℕ)
+text_of (prim (key.Text s)) = Some s
+text_of _ = None
+
+-- an integer
+abbrev pub integer_of : Plain → Option ℤ
+integer_of (prim (key.Int n)) = Some n
+integer_of _ = None
+
+-- true or false
+abbrev pub truth_of : Plain → Option Bool
+truth_of (prim (key.Bool b)) = Some b
+truth_of _ = None
+
+-- a key is this name
+abbrev pub is_name : Key → List ℕ → Bool
+is_name (key.Text s) name = bytes_eq s name
+is_name _ name = false
+
+-- ---- shapes
+-- one of the five words
+abbrev pub simple_word : List ℕ → Option Simple
+simple_word s =
+    if bytes_eq s (codes "any") then Some simple.Any else (
+    if bytes_eq s (codes "null") then Some simple.Null else (
+    if bytes_eq s (codes "bool") then Some simple.Bool else (
+    if bytes_eq s (codes "int") then Some simple.Int else (
+    if bytes_eq s (codes "text") then Some simple.Text else None))))
+
+abbrev pub simple_of : Plain → Option Simple
+simple_of v = and_then (text_of v) simple_word
+
+-- a list of two integers
+abbrev pub range_in : List (Key × Plain) → Option Shape
+range_in (lo ∷ hi ∷ []) = both_of range (integer_of lo.1) (integer_of hi.1)
+range_in _ = None
+
+abbrev pub range_of : Plain → Option Shape
+range_of v = and_then (elements v) range_in
+
+-- an object with the one member `int`, `list`, `table`, `map`, `set`, `obj` or `or`; behind its value stand the shape, the
+-- named shapes and the choices that the value is read as
+abbrev pub alone : Key → Plain → Option Shape → Option Names → Option Choices → Option Shape
+alone k v s ns cs =
+    if is_name k (codes "int") then range_of v else (
+    if is_name k (codes "list") then option_map (every kind.List) s else (
+    if is_name k (codes "table") then option_map (every kind.Obj) s else (
+    if is_name k (codes "map") then option_map (every kind.Map) s else (
+    if is_name k (codes "set") then option_map members (simple_of v) else (
+    if is_name k (codes "obj") then option_map (λ must. object must no_name) ns else (
+    if is_name k (codes "or") then option_map either cs else None))))))
+
+-- some name stands in both
+abbrev pub has_name : List ℕ → Names → Bool
+has_name n no_name = false
+has_name n (named m s ms) = if bytes_eq n m then true else has_name n ms
+
+abbrev pub share_name : Names → Names → Bool
+share_name no_name ns = false
+share_name (named m s ms) ns = if has_name m ns then true else share_name ms ns
+
+-- required and allowed names; none stands in both
+abbrev pub with_allowed : Option Names → Option Names → Option Shape
+with_allowed (Some must) (Some may) = if share_name must may then None else Some (object must may)
+with_allowed _ _ = None
+
+-- an object with the two members `obj` and `opt`
+abbrev pub together : Key → Option Names → Key → Option Names → Option Shape
+together j must k may = if is_name j (codes "obj") && is_name k (codes "opt") then with_allowed must may else None
+
+-- a member of an object of shapes
+abbrev pub named_of : Key → Option Shape → Option Names → Option Names
+named_of (key.Text n) s ns = both_of (named n) s ns
+named_of _ s ns = None
+
+-- at least one
+abbrev pub not_empty : Choices → Option Choices
+not_empty no_choice = None
+not_empty (choice s cs) = Some (choice s cs)
+
+abbrev mutual
+  -- the shape that a value is read as
+  pub shape_of : Plain → Option Shape
+  shape_of (prim k) = option_map one (simple_of (prim k))
+  shape_of (node kind es) = shape_in kind es
+
+  pub shape_in : Kind → Entries → Option Shape
+  shape_in kind.Obj (entry k v none) = alone k v (shape_of v) (names_of v) (choices_of v)
+  shape_in kind.Obj (entry j u (entry k v none)) = together j (names_of u) k (names_of v)
+  shape_in _ _ = None
+
+  -- an object of shapes
+  pub names_of : Plain → Option Names
+  names_of (prim k) = None
+  names_of (node kind.Obj es) = names_in es
+  names_of (node _ es) = None
+
+  pub names_in : Entries → Option Names
+  names_in none = Some no_name
+  names_in (entry k v es) = named_of k (shape_of v) (names_in es)
+
+  -- a list of shapes
+  pub choices_of : Plain → Option Choices
+  choices_of (prim k) = None
+  choices_of (node kind.List es) = and_then (choices_in es) not_empty
+  choices_of (node _ es) = None
+
+  pub choices_in : Entries → Option Choices
+  choices_in none = Some no_choice
+  choices_in (entry k v es) = both_of choice (shape_of v) (choices_in es)
+
+-- ---- paths, views and grants
+-- a step is a primitive
+abbrev pub step_of : Key × Plain → Option Key
+step_of e = elim (e.1) [ prim k ↦ Some k | node kind es ↦ None ]
+
+abbrev pub path_of : Plain → Option (List Key)
+path_of v = and_then (elements v) (all_read step_of)
+
+-- a list of a text and two integers
+abbrev pub counted_in : List (Key × Plain) → Option Weigh
+counted_in (name ∷ lo ∷ hi ∷ []) = and_then (text_of name.1) (λ n. both_of (weigh.Int n) (integer_of lo.1) (integer_of hi.1))
+counted_in _ = None
+
+-- an object with the one member `true` or `int`
+abbrev pub weigh_in : List (Key × Plain) → Option Weigh
+weigh_in (e ∷ []) =
+    if is_name e.0 (codes "true") then option_map weigh.True (text_of e.1) else (
+    if is_name e.0 (codes "int") then and_then (elements e.1) counted_in else None)
+weigh_in _ = None
+
+abbrev pub weigh_word : List ℕ → Option Weigh
+weigh_word s = if bytes_eq s (codes "count") then Some weigh.Count else (if bytes_eq s (codes "weight") then Some weigh.Weight else None)
+
+-- a word, or an object
+abbrev pub weigh_of : Plain → Option Weigh
+weigh_of (prim k) = and_then (text_of (prim k)) weigh_word
+weigh_of (node kind es) = and_then (fields (node kind es)) weigh_in
+
+abbrev pub view_parts : List ℕ → List (Key × Plain) → Option ViewRule
+view_parts n (p ∷ w ∷ []) =
+    if is_name p.0 (codes "path") && is_name w.0 (codes "weigh") then both_of (λ path weigh. record { name = n; path = path; weigh = weigh }) (path_of p.1) (weigh_of w.1) else None
+view_parts n _ = None
+
+-- a name with the two members `path` and `weigh`
+abbrev pub view_rule : Key × Plain → Option ViewRule
+view_rule e = and_then (text_of (prim e.0)) (λ n. and_then (fields e.1) (view_parts n))
+
+abbrev pub views_of : Plain → Option (List ViewRule)
+views_of v = and_then (fields v) (all_read view_rule)
+
+-- every name but `default`, which stands for no rule
+abbrev pub rule_name : Plain → Option (List ℕ)
+rule_name v = and_then (text_of v) (λ n. if bytes_eq n (codes "default") then None else Some n)
+
+abbrev pub grant_parts : List (Key × Plain) → Option GrantRule
+grant_parts (a ∷ p ∷ r ∷ []) =
+    if is_name a.0 (codes "allow") && is_name p.0 (codes "path") && is_name r.0 (codes "rule") then
+        and_then (truth_of a.1) (λ allow. both_of (λ path rule. record { rule = rule; allow = allow; path = path }) (path_of p.1) (rule_name r.1))
+    else None
+grant_parts _ = None
+
+-- an object with the three members `allow`, `path` and `rule`
+abbrev pub grant_rule : Key × Plain → Option GrantRule
+grant_rule e = and_then (fields e.1) grant_parts
+
+-- a list of rules
+abbrev pub grant_of : Plain → Option (List GrantRule)
+grant_of v = and_then (elements v) (all_read grant_rule)
+
+-- a grant has a name and a list of rules
+abbrev pub Named : Type 0
+Named = List ℕ × List GrantRule
+
+abbrev pub named_grant : Key × Plain → Option Named
+named_grant e = and_then (text_of (prim e.0)) (λ n. option_map (λ rules. (n, rules)) (grant_of e.1))
+
+abbrev pub grants_of : Plain → Option (List Named)
+grants_of v = and_then (fields v) (all_read named_grant)
+
+-- ---- rules
+pub record Ruled : Type 0 where
+  pub guard : Shape
+  pub views : List ViewRule
+  pub grants : List Named
+
+-- every value meets the guard, and there are no views and no grants
+abbrev pub no_rules : Ruled
+no_rules = record { guard = one simple.Any; views = []; grants = [] }
+
+-- the rules with one member more: `guard`, `views` or `grants`
+abbrev pub with_member : Ruled → Key × Plain → Option Ruled
+with_member r e =
+    if is_name e.0 (codes "guard") then option_map (λ s. record r { guard = s }) (shape_of e.1) else (
+    if is_name e.0 (codes "views") then option_map (λ vs. record r { views = vs }) (views_of e.1) else (
+    if is_name e.0 (codes "grants") then option_map (λ gs. record r { grants = gs }) (grants_of e.1) else None))
+
+abbrev pub with_members : Ruled → List (Key × Plain) → Option Ruled
+with_members r [] = Some r
+with_members r (e ∷ es) = and_then (with_member r e) (λ q. with_members q es)
+
+-- the rules that a value is read as: an object whose members are all optional
+abbrev pub rules_of : Plain → Option Ruled
+rules_of v = and_then (fields v) (with_members no_rules)
