@@ -1,5 +1,5 @@
 -- Shapes of values, and the first place at which a value breaks one.
-use Rattle.std.specs.Prelude.{ℕ, ◌+◌, ℤ, pos, List, [], ◌∷◌, ◌++◌, Bool, true, false, ◌&&◌, ◌||◌, IsTrue, Option, Some, None, is_none, int_le}
+use Rattle.std.specs.Prelude.{ℕ, ◌+◌, ℤ, pos, List, [], ◌∷◌, ◌++◌, Bool, true, false, ◌&&◌, ◌||◌, IsTrue, Option, Some, None, is_some, is_none, int_le, if◌then◌else◌}
 use Rattle.std.specs.Option.{option_map, option_or}
 use Rattle.std.specs.Ordering.{is_lt}
 use Rattle.std.specs.FinMap.Entries.{find, is_sorted}
@@ -53,16 +53,23 @@ is_simple simple.Int (key.Int n) = true
 is_simple simple.Text (key.Text s) = true
 is_simple _ _ = false
 
+abbrev pub is_any : Simple → Bool
+is_any simple.Any = true
+is_any _ = false
+
 -- containers are met by `any` alone
 abbrev pub meets_one : Simple → Plain → Bool
 meets_one s (prim k) = is_simple s k
-meets_one simple.Any (node kind es) = true
-meets_one _ (node kind es) = false
+meets_one s (node kind es) = is_any s
+
+abbrev pub key_in_range : ℤ → ℤ → Key → Bool
+key_in_range lo hi (key.Int n) = int_le lo n && int_le n hi
+key_in_range lo hi _ = false
 
 -- an integer, both ends included
 abbrev pub in_range : ℤ → ℤ → Plain → Bool
-in_range lo hi (prim (key.Int n)) = int_le lo n && int_le n hi
-in_range lo hi _ = false
+in_range lo hi (prim k) = key_in_range lo hi k
+in_range lo hi (node kind es) = false
 
 abbrev pub all_simple : Simple → Entries → Bool
 all_simple s none = true
@@ -92,17 +99,21 @@ first_broken f kind i (entry k v es) = option_or (below (step_at kind i k) (f v)
 
 -- a container of the kind, whose values don't break
 abbrev pub in_each : Kind → (Plain → Broken) → Plain → Broken
-in_each kind f (node j es) = elim (same_kind kind j) [ true ↦ first_broken f kind 0 es | false ↦ Some [] ]
+in_each kind f (node j es) = if same_kind kind j then first_broken f kind 0 es else Some []
 in_each kind f (prim k) = Some []
 
 -- what is asked of the value under a name
 abbrev pub Checks : Type 0
 Checks = List (Key × (Plain → Broken))
 
+-- some entry has the key
+abbrev pub has_key : Key → List (Key × Plain) → Bool
+has_key k es = is_some (find key_cmp k es)
+
 -- the first required name that isn't there
 abbrev pub first_missing : Checks → List (Key × Plain) → Option Key
 first_missing [] es = None
-first_missing (m ∷ ms) es = elim (find key_cmp m.0 es) [ None ↦ Some m.0 | Some v ↦ first_missing ms es ]
+first_missing (m ∷ ms) es = if has_key m.0 es then first_missing ms es else Some m.0
 
 -- what is asked under a name, which may not be there
 abbrev pub asked : Checks → Checks → Key → Option (Plain → Broken)
@@ -127,7 +138,7 @@ is_before k (j ∷ p) = is_lt (key_cmp k j)
 abbrev pub earlier : Option Key → Broken → Broken
 earlier None b = b
 earlier (Some k) None = Some (k ∷ [])
-earlier (Some k) (Some p) = elim (is_before k p) [ true ↦ Some (k ∷ []) | false ↦ Some p ]
+earlier (Some k) (Some p) = if is_before k p then Some (k ∷ []) else Some p
 
 -- an object with all required names, others only where they are allowed, and each value as it has to be
 abbrev pub in_object : Checks → Checks → Plain → Broken

@@ -2,9 +2,10 @@
 use Rattle.std.specs.Prelude.{ℕ, List, map, IsTrue}
 use Rattle.std.specs.FinMap.Entries.{is_sorted}
 use Rattle.value_model.specs.declared.key.Key.{Key}
-use Rattle.value_model.specs.declared.key.Key.TheVariants.{Text}
+use Rattle.value_model.specs.declared.key.Key.TheVariants.{Null, Text}
 use Rattle.value_model.specs.declared.words.Kind.TheVariants as kind
 use Rattle.value_model.specs.Order.{key_cmp}
+use Rattle.value_model.specs.Plain.{Plain, prim}
 use Rattle.guards_views_spec.specs.Shapes.{Shape, Names, one, range, every, members, object, either, names, choices}
 use Rattle.shapes.specs.declared.shape.Named.{Named}
 use Rattle.shapes.specs.declared.shape.Form.{Form}
@@ -29,13 +30,13 @@ seen (form.Set s) = members s
 seen (form.Obj must may) = object (of_names must.items) (of_names may.items)
 seen (form.Or cs) = either (choices cs.items)
 
--- a name as a key
-abbrev pub keyed : Named → Key × Shape
-keyed n = (Text n.name, n.shape)
+-- a name in a table; what stands under it isn't looked at
+abbrev pub placed : Named → Key × Plain
+placed n = (Text n.name, prim Null)
 
 -- these names ascend strictly
 abbrev pub NamesAscend : List Named → Type 0
-NamesAscend ns = IsTrue (is_sorted key_cmp (map keyed ns))
+NamesAscend ns = IsTrue (is_sorted key_cmp (map placed ns))
 
 -- the names of this level ascend strictly, where there are names
 abbrev pub Ascends : Form → Type 0
