@@ -1,13 +1,13 @@
 -- Rules as a value: a shape for the states, views and grants. A value of another form is none.
-use Rattle.std.specs.Prelude.{ℤ, List, [], ◌∷◌, ◌++◌, Bool, true, false, ◌&&◌, not, Option, Some, None, codes, if◌then◌else◌}
+use Rattle.std.specs.Prelude.{ℕ, ℤ, List, [], ◌∷◌, ◌++◌, Bool, true, false, ◌&&◌, is_some, Option, Some, None, codes, if◌then◌else◌}
 use Rattle.std.specs.Option.{option_map, option_or}
 use Rattle.std.specs.Str.{bytes_eq}
 use Rattle.std.specs.FinMap.Entries.{find}
-use Rattle.std.specs.Prelude.{ℕ}
 use Rattle.value_model.specs.declared.key.Key.{Key}
 use Rattle.value_model.specs.declared.key.Key.TheVariants as key
-use Rattle.value_model.specs.declared.words.Kind.{Kind}
-use Rattle.value_model.specs.declared.words.Kind.TheVariants as kind
+use Rattle.value_model.specs.declared.kind.Kind.{Kind}
+use Rattle.value_model.specs.declared.kind.Kind.TheVariants as kind
+use Rattle.value_model.specs.Order.{key_cmp}
 use Rattle.value_model.specs.Plain.{Plain, Entries, prim, node, none, entry, list_of}
 use Rattle.guards_views_spec.specs.declared.Simple.{Simple}
 use Rattle.guards_views_spec.specs.declared.Simple.TheVariants as simple
@@ -15,7 +15,7 @@ use Rattle.guards_views_spec.specs.declared.Weigh.{Weigh}
 use Rattle.guards_views_spec.specs.declared.Weigh.TheVariants as weigh
 use Rattle.guards_views_spec.specs.declared.ViewRule.{ViewRule}
 use Rattle.guards_views_spec.specs.declared.GrantRule.{GrantRule}
-use Rattle.guards_views_spec.specs.Shapes.{Shape, Names, Choices, one, range, every, members, object, either, no_name, named, no_choice, choice}
+use Rattle.guards_views_spec.specs.Shapes.{Shape, Names, Choices, Checks, checks, one, range, every, members, object, either, no_name, named, no_choice, choice}
 
 -- both answers together, where both are there
 abbrev pub both_of : {X Y Z : Type 0} → (X → Y → Z) → Option X → Option Y → Option Z
@@ -43,20 +43,37 @@ abbrev pub fields : Plain → Option (List (Key × Plain))
 fields (node kind.Obj es) = Some (list_of es)
 fields _ = None
 
+abbrev pub key_text : Key → Option (List ℕ)
+key_text (key.Text s) = Some s
+key_text _ = None
+
+abbrev pub key_integer : Key → Option ℤ
+key_integer (key.Int n) = Some n
+key_integer _ = None
+
+abbrev pub key_truth : Key → Option Bool
+key_truth (key.Bool b) = Some b
+key_truth _ = None
+
+-- a primitive
+abbrev pub primitive : Plain → Option Key
+primitive (prim k) = Some k
+primitive (node kind es) = None
+
 -- a text
 abbrev pub text_of : Plain → Option (List ℕ)
-text_of (prim (key.Text s)) = Some s
-text_of _ = None
+text_of (prim k) = key_text k
+text_of (node kind es) = None
 
 -- an integer
 abbrev pub integer_of : Plain → Option ℤ
-integer_of (prim (key.Int n)) = Some n
-integer_of _ = None
+integer_of (prim k) = key_integer k
+integer_of (node kind es) = None
 
 -- true or false
 abbrev pub truth_of : Plain → Option Bool
-truth_of (prim (key.Bool b)) = Some b
-truth_of _ = None
+truth_of (prim k) = key_truth k
+truth_of (node kind es) = None
 
 -- a key is this name
 abbrev pub is_name : Key → List ℕ → Bool
@@ -97,17 +114,13 @@ alone k v s ns cs =
     if is_name k (codes "or") then option_map either cs else None))))))
 
 -- some name stands in both
-abbrev pub has_name : List ℕ → Names → Bool
-has_name n no_name = false
-has_name n (named m s ms) = if bytes_eq n m then true else has_name n ms
-
-abbrev pub share_name : Names → Names → Bool
+abbrev pub share_name : Names → Checks → Bool
 share_name no_name ns = false
-share_name (named m s ms) ns = if has_name m ns then true else share_name ms ns
+share_name (named m s ms) ns = if is_some (find key_cmp (key.Text m) ns) then true else share_name ms ns
 
 -- required and allowed names; none stands in both
 abbrev pub with_allowed : Option Names → Option Names → Option Shape
-with_allowed (Some must) (Some may) = if share_name must may then None else Some (object must may)
+with_allowed (Some must) (Some may) = if share_name must (checks may) then None else Some (object must may)
 with_allowed _ _ = None
 
 -- an object with the two members `obj` and `opt`
@@ -158,7 +171,7 @@ abbrev mutual
 -- ---- paths, views and grants
 -- a step is a primitive
 abbrev pub step_of : Key × Plain → Option Key
-step_of e = elim (e.1) [ prim k ↦ Some k | node kind es ↦ None ]
+step_of e = primitive e.1
 
 abbrev pub path_of : Plain → Option (List Key)
 path_of v = and_then (elements v) (all_read step_of)
@@ -190,7 +203,7 @@ view_parts n _ = None
 
 -- a name with the two members `path` and `weigh`
 abbrev pub view_rule : Key × Plain → Option ViewRule
-view_rule e = and_then (text_of (prim e.0)) (λ n. and_then (fields e.1) (view_parts n))
+view_rule e = and_then (key_text e.0) (λ n. and_then (fields e.1) (view_parts n))
 
 abbrev pub views_of : Plain → Option (List ViewRule)
 views_of v = and_then (fields v) (all_read view_rule)
@@ -219,7 +232,7 @@ abbrev pub Named : Type 0
 Named = List ℕ × List GrantRule
 
 abbrev pub named_grant : Key × Plain → Option Named
-named_grant e = and_then (text_of (prim e.0)) (λ n. option_map (λ rules. (n, rules)) (grant_of e.1))
+named_grant e = and_then (key_text e.0) (λ n. option_map (λ rules. (n, rules)) (grant_of e.1))
 
 abbrev pub grants_of : Plain → Option (List Named)
 grants_of v = and_then (fields v) (all_read named_grant)

@@ -1,5 +1,5 @@
 -- What a search for the first break finds.
-use Rattle.std.specs.Prelude.{◌≡◌, ◌<◌, ℕ, List, [], ◌∷◌, true, Option, Some, None, is_some, Vec, reverse}
+use Rattle.std.specs.Prelude.{◌≡◌, ◌<◌, ℕ, List, [], ◌∷◌, true, Option, Some, None, is_some}
 use Rattle.value_model.specs.declared.key.Key.{Key}
 use Rattle.value_model.specs.declared.key.Key.TheVariants as key
 use Rattle.value_model.specs.Plain.{Plain}
@@ -16,8 +16,3 @@ abbrev pub IsWrong : ℕ → Option Wrong → Broken → Type 0
 IsWrong n None o = o ≡ None
 IsWrong n (Some (wrong.Name k)) o = o ≡ Some (key.Text k.now ∷ [])
 IsWrong n (Some (wrong.Field s f)) o = BreaksAt s.now (key.Text f.now.key) f.now.value o × (shapes s.now < n)
-
--- the path that steps are, the last step first
-abbrev pub path_of : Option (Vec Key) → Broken
-path_of None = None
-path_of (Some keys) = Some (reverse keys.items)

@@ -3,7 +3,7 @@ use Rattle.std.specs.Prelude.{ℕ, List, map, IsTrue}
 use Rattle.std.specs.FinMap.Entries.{is_sorted}
 use Rattle.value_model.specs.declared.key.Key.{Key}
 use Rattle.value_model.specs.declared.key.Key.TheVariants.{Null, Text}
-use Rattle.value_model.specs.declared.words.Kind.TheVariants as kind
+use Rattle.value_model.specs.declared.kind.Kind.TheVariants as kind
 use Rattle.value_model.specs.Order.{key_cmp}
 use Rattle.value_model.specs.Plain.{Plain, prim}
 use Rattle.guards_views_spec.specs.Shapes.{Shape, Names, one, range, every, members, object, either, names, choices}

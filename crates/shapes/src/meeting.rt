@@ -3,7 +3,7 @@ ghost use Rattle.std.specs.Prelude.{◌≡◌, ℕ, pos, map, is_none, MatchOpti
 ghost use Rattle.std.specs.FinMap.Entries.{is_sorted};
 ghost use Rattle.value_model.specs.Order.{key_cmp};
 ghost use Rattle.value_model.specs.declared.key.Key.TheVariants as key_of;
-ghost use Rattle.value_model.specs.declared.words.Kind.TheVariants as kind;
+ghost use Rattle.value_model.specs.declared.kind.Kind.TheVariants as kind;
 ghost use Rattle.values.specs.Seen.{of_field, of_fields, of_entries, of_items};
 ghost use Rattle.guards_views_spec.specs.Shapes as spec;
 ghost use Rattle.guards_views_spec.specs.Shapes.{Broken};
@@ -13,7 +13,7 @@ ghost use Rattle.shapes.specs.Breaks.{BreaksAt, IsWrong};
 use crate::names::{asked, compare, first_missing};
 use crate::primitives::{in_range, is_set_of, meets_one};
 use crate::shape::{Form, Named, Shape};
-use values::{Entry, Field, Node, Text, Val};
+use values::{Entry, Field, ValNode, Text, Val};
 
 /// What is wrong in an object.
 #[derive(Drop)]
@@ -46,7 +46,7 @@ fn is_list(shape: &Shape, v: &Val) -> bool
     ensures { result ≡ is_none (spec.in_each kind.List (spec.broken shape.now) v.now) }
 {
     match &v.node {
-        Node::List(items) => first_item(shape, items).is_none(),
+        ValNode::List(items) => first_item(shape, items).is_none(),
         _ => false,
     }
 }
@@ -56,7 +56,7 @@ fn is_table(shape: &Shape, v: &Val) -> bool
     ensures { result ≡ is_none (spec.in_each kind.Obj (spec.broken shape.now) v.now) }
 {
     match &v.node {
-        Node::Obj(fields) => first_field(shape, fields).is_none(),
+        ValNode::Obj(fields) => first_field(shape, fields).is_none(),
         _ => false,
     }
 }
@@ -66,7 +66,7 @@ fn is_map(shape: &Shape, v: &Val) -> bool
     ensures { result ≡ is_none (spec.in_each kind.Map (spec.broken shape.now) v.now) }
 {
     match &v.node {
-        Node::Map(entries) => first_entry(shape, entries).is_none(),
+        ValNode::Map(entries) => first_entry(shape, entries).is_none(),
         _ => false,
     }
 }
@@ -78,13 +78,13 @@ fn is_object(must: &[Named], may: &[Named], v: &Val) -> bool
     ensures { result ≡ is_none (spec.in_object (spec.checks (of_names must.now)) (spec.checks (of_names may.now)) v.now) }
 {
     match &v.node {
-        Node::Obj(fields) => first_wrong(must, may, fields).is_none(),
+        ValNode::Obj(fields) => first_wrong(must, may, fields).is_none(),
         _ => false,
     }
 }
 
 #[cycle(meets)]
-fn any_met(choices: &[Shape], v: &Val) -> bool
+pub(crate) fn any_met(choices: &[Shape], v: &Val) -> bool
     ensures { result ≡ spec.any_met (spec.choices choices.now) v.now }
 {
     for shape in choices {

@@ -4,14 +4,14 @@ ghost use Rattle.guards_views_spec.specs.Shapes as spec;
 ghost use Rattle.values.specs.Seen.{of_members};
 
 use guards_views_spec::Simple;
-use values::{Key, Node, Safe, Val};
+use values::{Key, ValNode, Safe, Val};
 
 /// Whether a value is of a kind.
 pub(crate) fn meets_one(simple: Simple, v: &Val) -> bool
     ensures { result ≡ spec.meets_one simple v.now }
 {
     match &v.node {
-        Node::Prim(k) => is_simple(simple, k),
+        ValNode::Prim(k) => is_simple(simple, k),
         _ => is_any(simple),
     }
 }
@@ -43,7 +43,7 @@ pub(crate) fn in_range(lo: Safe, hi: Safe, v: &Val) -> bool
     ensures { result ≡ spec.in_range lo hi v.now }
 {
     match &v.node {
-        Node::Prim(k) => key_in_range(lo, hi, k),
+        ValNode::Prim(k) => key_in_range(lo, hi, k),
         _ => false,
     }
 }
@@ -62,7 +62,7 @@ pub(crate) fn is_set_of(simple: Simple, v: &Val) -> bool
     ensures { result ≡ spec.is_set_of simple v.now }
 {
     match &v.node {
-        Node::Set(members) => all_simple(simple, members),
+        ValNode::Set(members) => all_simple(simple, members),
         _ => false,
     }
 }
