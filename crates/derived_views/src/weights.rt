@@ -83,7 +83,7 @@ fn sum(entries: &[Weight]) -> u64
 }
 
 fn place(entries: &[Weight], key: &Key) -> Result<usize, usize>
-    requires { IsTrue (is_sorted key_cmp (map placed entries.now)) }
+    requires { IsTrue (is_sorted key_cmp (map of_weight entries.now)) }
     ensures { IsPlace placed key.now entries.now result }
 {
     entries.binary_search_by(|e| e.key.compare(key))

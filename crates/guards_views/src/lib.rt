@@ -9,7 +9,6 @@ mod shape_reading;
 mod texts;
 mod view_reading;
 
-pub use derived_views::{Keys, Touched, View, ViewRule, Weigh, Weights};
 pub use fault::RulesFault;
 pub use grants::{Grant, GrantRule, Grants, NamedGrant, Verdict};
 pub use rules::{Rules, Views};

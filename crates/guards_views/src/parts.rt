@@ -91,3 +91,58 @@ pub(crate) fn truth(v: &Val) -> Option<bool>
         _ => None,
     }
 }
+
+/// The one member of an object.
+pub(crate) fn single(fields: &[Field]) -> Option<&Field>
+    ensures { option_map (λ f. of_field f.now) result ≡ spec.single (map of_field fields.now) }
+{
+    if fields.len() == 1 {
+        Some(&fields[0])
+    } else {
+        None
+    }
+}
+
+/// The two members of an object.
+pub(crate) fn pair(fields: &[Field]) -> Option<(&Field, &Field)>
+    ensures { option_map (λ p. (of_field p.0.now, of_field p.1.now)) result ≡ spec.pair (map of_field fields.now) }
+{
+    if fields.len() == 2 {
+        Some((&fields[0], &fields[1]))
+    } else {
+        None
+    }
+}
+
+/// The three members of an object.
+pub(crate) fn triple(fields: &[Field]) -> Option<(&Field, &Field, &Field)>
+    ensures { option_map (λ p. (of_field p.0.now, of_field p.1.now, of_field p.2.now)) result ≡ spec.triple (map of_field fields.now) }
+{
+    if fields.len() == 3 {
+        Some((&fields[0], &fields[1], &fields[2]))
+    } else {
+        None
+    }
+}
+
+/// The two elements of a list.
+pub(crate) fn two(items: &[Val]) -> Option<(&Val, &Val)>
+    ensures { option_map (λ p. (of_item p.0.now, of_item p.1.now)) result ≡ spec.pair (map of_item items.now) }
+{
+    if items.len() == 2 {
+        Some((&items[0], &items[1]))
+    } else {
+        None
+    }
+}
+
+/// The three elements of a list.
+pub(crate) fn three(items: &[Val]) -> Option<(&Val, &Val, &Val)>
+    ensures { option_map (λ p. (of_item p.0.now, of_item p.1.now, of_item p.2.now)) result ≡ spec.triple (map of_item items.now) }
+{
+    if items.len() == 3 {
+        Some((&items[0], &items[1], &items[2]))
+    } else {
+        None
+    }
+}

@@ -33,6 +33,19 @@ abbrev pub all_read : {X Y : Type 0} → (X → Option Y) → List X → Option 
 all_read f [] = Some []
 all_read f (x ∷ xs) = both_of (λ y ys. y ∷ ys) (f x) (all_read f xs)
 
+-- the elements of a list of one, two or three
+abbrev pub single : {X : Type 0} → List X → Option X
+single (x ∷ []) = Some x
+single _ = None
+
+abbrev pub pair : {X : Type 0} → List X → Option (X × X)
+pair (x ∷ y ∷ []) = Some (x, y)
+pair _ = None
+
+abbrev pub triple : {X : Type 0} → List X → Option (X × X × X)
+triple (x ∷ y ∷ z ∷ []) = Some (x, y, z)
+triple _ = None
+
 -- the elements of a list
 abbrev pub elements : Plain → Option (List (Key × Plain))
 elements (node kind.List es) = Some (list_of es)
@@ -94,9 +107,11 @@ abbrev pub simple_of : Plain → Option Simple
 simple_of v = and_then (text_of v) simple_word
 
 -- a list of two integers
+abbrev pub between : (Key × Plain) × (Key × Plain) → Option Shape
+between p = both_of range (integer_of p.0.1) (integer_of p.1.1)
+
 abbrev pub range_in : List (Key × Plain) → Option Shape
-range_in (lo ∷ hi ∷ []) = both_of range (integer_of lo.1) (integer_of hi.1)
-range_in _ = None
+range_in es = and_then (pair es) between
 
 abbrev pub range_of : Plain → Option Shape
 range_of v = and_then (elements v) range_in
@@ -177,33 +192,42 @@ abbrev pub path_of : Plain → Option (List Key)
 path_of v = and_then (elements v) (all_read step_of)
 
 -- a list of a text and two integers
-abbrev pub counted_in : List (Key × Plain) → Option Weigh
-counted_in (name ∷ lo ∷ hi ∷ []) = and_then (text_of name.1) (λ n. both_of (weigh.Int n) (integer_of lo.1) (integer_of hi.1))
-counted_in _ = None
+abbrev pub counted : (Key × Plain) × (Key × Plain) × (Key × Plain) → Option Weigh
+counted t = and_then (text_of t.0.1) (λ n. both_of (weigh.Int n) (integer_of t.1.1) (integer_of t.2.1))
 
--- an object with the one member `true` or `int`
-abbrev pub weigh_in : List (Key × Plain) → Option Weigh
-weigh_in (e ∷ []) =
+abbrev pub counted_in : List (Key × Plain) → Option Weigh
+counted_in es = and_then (triple es) counted
+
+-- the member `true` or `int`
+abbrev pub weigh_member : Key × Plain → Option Weigh
+weigh_member e =
     if is_name e.0 (codes "true") then option_map weigh.True (text_of e.1) else (
     if is_name e.0 (codes "int") then and_then (elements e.1) counted_in else None)
-weigh_in _ = None
+
+-- an object with one of them alone
+abbrev pub weigh_in : List (Key × Plain) → Option Weigh
+weigh_in es = and_then (single es) weigh_member
 
 abbrev pub weigh_word : List ℕ → Option Weigh
 weigh_word s = if bytes_eq s (codes "count") then Some weigh.Count else (if bytes_eq s (codes "weight") then Some weigh.Weight else None)
 
 -- a word, or an object
-abbrev pub weigh_of : Plain → Option Weigh
-weigh_of (prim k) = and_then (text_of (prim k)) weigh_word
-weigh_of (node kind es) = and_then (fields (node kind es)) weigh_in
+abbrev pub word_or_object : Option (List ℕ) → Plain → Option Weigh
+word_or_object (Some s) v = weigh_word s
+word_or_object None v = and_then (fields v) weigh_in
 
-abbrev pub view_parts : List ℕ → List (Key × Plain) → Option ViewRule
-view_parts n (p ∷ w ∷ []) =
-    if is_name p.0 (codes "path") && is_name w.0 (codes "weigh") then both_of (λ path weigh. record { name = n; path = path; weigh = weigh }) (path_of p.1) (weigh_of w.1) else None
-view_parts n _ = None
+abbrev pub weigh_of : Plain → Option Weigh
+weigh_of v = word_or_object (text_of v) v
+
+abbrev pub view_made : List ℕ → List Key → Weigh → ViewRule
+view_made n path w = record { name = n; path = path; weigh = w }
+
+abbrev pub view_parts : List ℕ → (Key × Plain) × (Key × Plain) → Option ViewRule
+view_parts n p = if is_name p.0.0 (codes "path") && is_name p.1.0 (codes "weigh") then both_of (view_made n) (path_of p.0.1) (weigh_of p.1.1) else None
 
 -- a name with the two members `path` and `weigh`
 abbrev pub view_rule : Key × Plain → Option ViewRule
-view_rule e = and_then (key_text e.0) (λ n. and_then (fields e.1) (view_parts n))
+view_rule e = and_then (key_text e.0) (λ n. and_then (and_then (fields e.1) pair) (view_parts n))
 
 abbrev pub views_of : Plain → Option (List ViewRule)
 views_of v = and_then (fields v) (all_read view_rule)
@@ -212,16 +236,18 @@ views_of v = and_then (fields v) (all_read view_rule)
 abbrev pub rule_name : Plain → Option (List ℕ)
 rule_name v = and_then (text_of v) (λ n. if bytes_eq n (codes "default") then None else Some n)
 
-abbrev pub grant_parts : List (Key × Plain) → Option GrantRule
-grant_parts (a ∷ p ∷ r ∷ []) =
-    if is_name a.0 (codes "allow") && is_name p.0 (codes "path") && is_name r.0 (codes "rule") then
-        and_then (truth_of a.1) (λ allow. both_of (λ path rule. record { rule = rule; allow = allow; path = path }) (path_of p.1) (rule_name r.1))
+abbrev pub grant_made : Bool → List Key → List ℕ → GrantRule
+grant_made allow path rule = record { rule = rule; allow = allow; path = path }
+
+abbrev pub grant_parts : (Key × Plain) × (Key × Plain) × (Key × Plain) → Option GrantRule
+grant_parts t =
+    if is_name t.0.0 (codes "allow") && is_name t.1.0 (codes "path") && is_name t.2.0 (codes "rule") then
+        and_then (truth_of t.0.1) (λ allow. both_of (grant_made allow) (path_of t.1.1) (rule_name t.2.1))
     else None
-grant_parts _ = None
 
 -- an object with the three members `allow`, `path` and `rule`
 abbrev pub grant_rule : Key × Plain → Option GrantRule
-grant_rule e = and_then (fields e.1) grant_parts
+grant_rule e = and_then (and_then (fields e.1) triple) grant_parts
 
 -- a list of rules
 abbrev pub grant_of : Plain → Option (List GrantRule)
@@ -231,8 +257,11 @@ grant_of v = and_then (elements v) (all_read grant_rule)
 abbrev pub Named : Type 0
 Named = List ℕ × List GrantRule
 
+abbrev pub grant_under : List ℕ → List GrantRule → Named
+grant_under n rules = (n, rules)
+
 abbrev pub named_grant : Key × Plain → Option Named
-named_grant e = and_then (key_text e.0) (λ n. option_map (λ rules. (n, rules)) (grant_of e.1))
+named_grant e = and_then (key_text e.0) (λ n. option_map (grant_under n) (grant_of e.1))
 
 abbrev pub grants_of : Plain → Option (List Named)
 grants_of v = and_then (fields v) (all_read named_grant)
@@ -247,12 +276,21 @@ pub record Ruled : Type 0 where
 abbrev pub no_rules : Ruled
 no_rules = record { guard = one simple.Any; views = []; grants = [] }
 
+abbrev pub with_guard : Ruled → Option Shape → Option Ruled
+with_guard r o = option_map (λ s. record { guard = s; views = r.views; grants = r.grants }) o
+
+abbrev pub with_views : Ruled → Option (List ViewRule) → Option Ruled
+with_views r o = option_map (λ vs. record { guard = r.guard; views = vs; grants = r.grants }) o
+
+abbrev pub with_grants : Ruled → Option (List Named) → Option Ruled
+with_grants r o = option_map (λ gs. record { guard = r.guard; views = r.views; grants = gs }) o
+
 -- the rules with one member more: `guard`, `views` or `grants`
 abbrev pub with_member : Ruled → Key × Plain → Option Ruled
 with_member r e =
-    if is_name e.0 (codes "guard") then option_map (λ s. record r { guard = s }) (shape_of e.1) else (
-    if is_name e.0 (codes "views") then option_map (λ vs. record r { views = vs }) (views_of e.1) else (
-    if is_name e.0 (codes "grants") then option_map (λ gs. record r { grants = gs }) (grants_of e.1) else None))
+    if is_name e.0 (codes "guard") then with_guard r (shape_of e.1) else (
+    if is_name e.0 (codes "views") then with_views r (views_of e.1) else (
+    if is_name e.0 (codes "grants") then with_grants r (grants_of e.1) else None))
 
 abbrev pub with_members : Ruled → List (Key × Plain) → Option Ruled
 with_members r [] = Some r

@@ -11,5 +11,6 @@ mod shape;
 pub use guard::Guard;
 pub use guards_views_spec::Simple;
 pub use meeting::meets;
+pub use names::has_any;
 pub use paths::broken;
 pub use shape::{Form, Named, Shape};

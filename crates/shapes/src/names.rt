@@ -1,10 +1,11 @@
 //! Looking up names.
-ghost use Rattle.std.specs.Prelude.{◌≡◌, ◌<◌, map, option_map, IfSome, IsTrue};
+ghost use Rattle.std.specs.Prelude.{◌≡◌, ◌<◌, map, option_map, is_some, IfSome, IsTrue};
 ghost use Rattle.std.specs.FinMap.Entries.{find, is_sorted};
 ghost use Rattle.value_model.specs.Order.{key_cmp};
 ghost use Rattle.value_model.specs.Search.{IsPlace};
 ghost use Rattle.value_model.specs.declared.key.Key.TheVariants as key_of;
 ghost use Rattle.values.specs.Seen.{of_field};
+ghost use Rattle.guards_views_spec.specs.Reading.{share_name};
 ghost use Rattle.guards_views_spec.specs.Shapes as spec;
 ghost use Rattle.shapes.specs.Seen.{of_names, placed, NamesAscend};
 
@@ -50,6 +51,26 @@ pub(crate) fn asked<'a>(must: &'a [Named], may: &'a [Named], name: &Text) -> Opt
         Some(shape) => Some(shape),
         None => find_name(may, name),
     }
+}
+
+/// Whether some name of the first stands in the second too. It takes no memory.
+pub fn has_any(names: &[Named], others: &[Named]) -> bool
+    requires { NamesAscend others.now }
+    ensures { result ≡ share_name (of_names names.now) (spec.checks (of_names others.now)) }
+{
+    for n in names {
+        if has_name(others, &n.name) {
+            return true;
+        }
+    }
+    false
+}
+
+fn has_name(names: &[Named], name: &Text) -> bool
+    requires { NamesAscend names.now }
+    ensures { result ≡ is_some (find key_cmp (key_of.Text name.now) (spec.checks (of_names names.now))) }
+{
+    find_name(names, name).is_some()
 }
 
 fn has_field(fields: &[Field], name: &Text) -> bool
