@@ -10,7 +10,8 @@ use Rattle.value_model.specs.Order.{key_cmp}
 use Rattle.value_model.specs.Plain.{Plain, Entries, prim, node, none, entry, list_of, weight, weights, key_weight, place_weight}
 use Rattle.guards_views_spec.specs.declared.Weigh.{Weigh}
 use Rattle.guards_views_spec.specs.declared.Weigh.TheVariants as weigh
-use Rattle.guards_views_spec.specs.Views.{weighs, weights_in, total, one_where, some_passes}
+use Rattle.guards_views_spec.specs.Shapes.{in_range, step_at}
+use Rattle.guards_views_spec.specs.Views.{weighs, weights_in, total, one_where, some_passes, is_true, field}
 
 key_weighs : (k : Key) → 1 ≤ key_weight k
 key_weighs key.Null = omega arith
@@ -30,9 +31,31 @@ at_most_one false = omega arith
 pub adds_at_most : (w : Weigh) (v : Plain) → weighs w v ≤ weight v
 adds_at_most weigh.Count v = weighs_one v
 adds_at_most weigh.Weight v = omega arith
-adds_at_most (weigh.True n) v = let a = weighs_one v in let b = at_most_one (some_passes _ _) in omega (arith, a, b)
-adds_at_most (weigh.Int n lo hi) v = let a = weighs_one v in let b = at_most_one (some_passes _ _) in omega (arith, a, b)
+adds_at_most (weigh.True n) v = let a = weighs_one v in let b = at_most_one (some_passes is_true (field n v)) in omega (arith, a, b)
+adds_at_most (weigh.Int n lo hi) v = let a = weighs_one v in let b = at_most_one (some_passes (in_range lo hi) (field n v)) in omega (arith, a, b)
 
 pub sum_at_most : (w : Weigh) (kind : Kind) (i : ℕ) (es : Entries) → total (weights_in w kind i es) ≤ weights kind es
 sum_at_most w kind i none = omega arith
 sum_at_most w kind i (entry k v es) = let a = adds_at_most w v in let b = sum_at_most w kind (i + 1) es in omega (arith, a, b)
+
+-- ---- the steps ascend
+module _ (w : Weigh) (kind : Kind) (steps : (i : ℕ) (k : Key) → step_at kind i k ≡ k) where
+  below_same : (x : Key) (i : ℕ) (es : Entries) → below_all key_cmp x (weights_in w kind i es) ≡ below_all key_cmp x (list_of es)
+  below_same x i none = refl
+  below_same x i (entry k v es) = let s = steps i k in let b = below_same x (i + 1) es in cc
+
+  -- as the keys do, where the steps are the keys
+  pub sorted_same : (i : ℕ) (es : Entries) → is_sorted key_cmp (weights_in w kind i es) ≡ is_sorted key_cmp (list_of es)
+  sorted_same i none = refl
+  sorted_same i (entry k v es) = let s = steps i k in let b = below_same k (i + 1) es in let r = sorted_same (i + 1) es in rw s (cc)
+
+index_rises : (i j : ℕ) → i < j → key_cmp (key.Int (pos i)) (key.Int (pos j)) ≡ Less
+index_rises i j h = grind (arith)
+
+below_indexes : (w : Weigh) (i j : ℕ) (es : Entries) → i < j → below_all key_cmp (key.Int (pos i)) (weights_in w kind.List j es) ≡ true
+below_indexes w i j none h = refl
+below_indexes w i j (entry k v es) h = let l = index_rises i j h in rw l (below_indexes w i (j + 1) es (omega arith))
+
+pub indexes_sorted : (w : Weigh) (i : ℕ) (es : Entries) → is_sorted key_cmp (weights_in w kind.List i es) ≡ true
+indexes_sorted w i none = refl
+indexes_sorted w i (entry k v es) = rw (below_indexes w i (i + 1) es (omega arith)) (indexes_sorted w (i + 1) es)

@@ -1,5 +1,6 @@
 -- What was read so far, and what the rest is read as.
-use Rattle.std.proofs.Common.{◌≡◌, ℕ, List, [], ◌∷◌, ◌++◌, Option, Some, None, refl, ap, map}
+use Rattle.std.proofs.Common.{◌≡◌, ℕ, List, [], ◌∷◌, ◌++◌, Option, Some, None, refl, ap, map, append_assoc}
+use Rattle.std.proofs.lemmas.List.{append-nil}
 use Rattle.std.specs.Option.{option_map}
 use Rattle.guards_views_spec.specs.Shapes.{Shape, Names, Choices, no_name, named, no_choice, choice, names, choices}
 use Rattle.guards_views_spec.specs.Reading.{both_of, all_read}
@@ -7,6 +8,17 @@ use Rattle.guards_views_spec.specs.Reading.{both_of, all_read}
 -- ---- lists
 abbrev pub ahead : {X : Type 0} → List X → Option (List X) → Option (List X)
 ahead xs o = option_map (λ ys. xs ++ ys) o
+
+pub ahead_one : {X : Type 0} (xs : List X) (y : X) (o : Option (List X)) → ahead (xs ++ y ∷ []) o ≡ ahead xs (both_of (λ z zs. z ∷ zs) (Some y) o)
+ahead_one xs y None = refl
+ahead_one xs y (Some ys) = ap Some (append_assoc xs (y ∷ []) ys)
+
+pub ahead_end : {X : Type 0} (xs : List X) → ahead xs (Some []) ≡ Some xs
+ahead_end xs = ap Some (append-nil xs)
+
+-- one element more, and the end
+pub read_on : {X Y : Type 0} (f : X → Option Y) (out : List Y) (x : X) (y : Y) (xs : List X) → f x ≡ Some y → ahead (out ++ y ∷ []) (all_read f xs) ≡ ahead out (all_read f (x ∷ xs))
+read_on f out x y xs e = rw e (ahead_one out y (all_read f xs))
 
 -- ---- named shapes
 abbrev pub with_names : List (List ℕ × Shape) → Names → Names

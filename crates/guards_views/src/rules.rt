@@ -183,6 +183,7 @@ fn read_views(alloc: Global, v: &Val) -> Result<Vec<ViewRule>, RulesFault>
     }
 }
 
+#[tactic(auto, using(crate::proofs::Ahead::ahead_one, crate::proofs::Ahead::ahead_end))]
 fn views_in(alloc: Global, members: &[Field]) -> Result<Vec<ViewRule>, RulesFault>
     ensures { ReadsAs (λ vs. vs.items) result (spec.all_read spec.view_rule (map of_field members.now)) }
 {
@@ -205,6 +206,7 @@ fn read_grants(alloc: Global, v: &Val) -> Result<Vec<NamedGrant>, RulesFault>
     }
 }
 
+#[tactic(auto, using(crate::proofs::Ahead::ahead_one, crate::proofs::Ahead::ahead_end))]
 fn grants_in(alloc: Global, members: &[Field]) -> Result<Vec<NamedGrant>, RulesFault>
     ensures { ReadsAs (λ gs. map of_grant gs.items) result (spec.all_read spec.named_grant (map of_field members.now)) }
 {

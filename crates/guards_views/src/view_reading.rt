@@ -24,6 +24,7 @@ pub(crate) fn read_path(alloc: Global, v: &Val) -> Result<Path, RulesFault>
     }
 }
 
+#[tactic(auto, using(crate::proofs::Ahead::ahead_one, crate::proofs::Ahead::ahead_end))]
 fn path_in(alloc: Global, items: &[Val]) -> Result<Path, RulesFault>
     ensures { Reads result (spec.all_read spec.step_of (map of_item items.now)) }
 {
@@ -290,6 +291,7 @@ fn grant_in(alloc: Global, name: &Text, items: &[Val]) -> Result<NamedGrant, Rul
     }
 }
 
+#[tactic(auto, using(crate::proofs::Ahead::ahead_one, crate::proofs::Ahead::ahead_end))]
 fn rules_in(alloc: Global, items: &[Val]) -> Result<Vec<GrantRule>, RulesFault>
     ensures { ReadsAs (λ rs. rs.items) result (spec.all_read spec.grant_rule (map of_item items.now)) }
 {
