@@ -1,3 +1,4 @@
+pub mod Examples
 pub mod Grants
 pub mod Reading
 pub mod ShapeCode
