@@ -9,7 +9,9 @@ ghost use Rattle.guards_views.specs.Reads.{Reads, ReadsAs};
 
 use crate::fault::RulesFault;
 use crate::grants::{Grant, NamedGrant};
-use crate::parts::{elements, fields, integer, pair, primitive, single, text, three, triple, truth};
+use crate::parts::{
+    elements, fields, integer, pair, primitive, single, text, three, triple, truth,
+};
 use guards_views_spec::{GrantRule, ViewRule, Weigh};
 use std::alloc::Global;
 use values::{Field, Path, Safe, Text, Val};

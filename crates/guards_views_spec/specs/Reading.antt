@@ -242,7 +242,7 @@ grant_made allow path rule = record { rule = rule; allow = allow; path = path }
 abbrev pub grant_parts : (Key × Plain) × (Key × Plain) × (Key × Plain) → Option GrantRule
 grant_parts t =
     if is_name t.0.0 (codes "allow") && is_name t.1.0 (codes "path") && is_name t.2.0 (codes "rule") then
-        and_then (truth_of t.0.1) (λ allow. both_of (grant_made allow) (path_of t.1.1) (rule_name t.2.1))
+    and_then (truth_of t.0.1) (λ allow. both_of (grant_made allow) (path_of t.1.1) (rule_name t.2.1))
     else None
 
 -- an object with the three members `allow`, `path` and `rule`

@@ -42,7 +42,10 @@ fn path_text(alloc: Global, path: Path) -> anyhow::Result<String> {
 fn rules_line(alloc: Global, text: &str) -> anyhow::Result<String> {
     match rules(alloc, text)? {
         None => Ok(String::from_str(alloc, "no rules")?),
-        Some(rules) => Ok(format!(in alloc; "rules with {} views", rules.views().as_slice().len())?),
+        Some(rules) => Ok(format!(in alloc;
+            "rules with {} views",
+            rules.views().as_slice().len()
+        )?),
     }
 }
 

@@ -13,7 +13,7 @@ ghost use Rattle.shapes.specs.Breaks.{BreaksAt, IsWrong};
 use crate::names::{asked, compare, first_missing};
 use crate::primitives::{in_range, is_set_of, meets_one};
 use crate::shape::{Form, Named, Shape};
-use values::{Entry, Field, ValNode, Text, Val};
+use values::{Entry, Field, Text, Val, ValNode};
 
 /// What is wrong in an object.
 #[derive(Drop)]

@@ -12,7 +12,7 @@ use crate::meeting::{Wrong, any_met, first_entry, first_field, first_item, first
 use crate::primitives::{in_range, is_set_of, meets_one};
 use crate::shape::{Form, Named, Shape};
 use std::alloc::{AllocError, Global};
-use values::{Entry, Field, Key, ValNode, Path, Safe, Val};
+use values::{Entry, Field, Key, Path, Safe, Val, ValNode};
 
 /// The steps to the first place that breaks, the last step first.
 type Steps = Option<Vec<Key>>;
@@ -53,11 +53,7 @@ fn steps(alloc: Global, shape: &Shape, v: &Val) -> Result<Steps, AllocError>
 fn here(alloc: Global, met: bool) -> Steps
     ensures { option_map (λ ks. reverse ks.items) result ≡ spec.unless_here met }
 {
-    if met {
-        None
-    } else {
-        Some(Vec::new(alloc))
-    }
+    if met { None } else { Some(Vec::new(alloc)) }
 }
 
 #[cycle(steps)]

@@ -4,7 +4,7 @@ ghost use Rattle.guards_views_spec.specs.Shapes as spec;
 ghost use Rattle.values.specs.Seen.{of_members};
 
 use guards_views_spec::Simple;
-use values::{Key, ValNode, Safe, Val};
+use values::{Key, Safe, Val, ValNode};
 
 /// Whether a value is of a kind.
 pub(crate) fn meets_one(simple: Simple, v: &Val) -> bool
