@@ -3,7 +3,7 @@ use Rattle.std.proofs.Common.{◌≡◌, ℕ, zero, suc, ◌<◌, ◌≤◌, ◌
 use Rattle.std.specs.FinMap.Entries.{find, is_sorted}
 use Rattle.value_model.specs.declared.key.Key.{Key}
 use Rattle.std.specs.Ordering.{eq_by_cmp}
-use Rattle.value_checks.specs.Members.{not_placed}
+use Rattle.value_checks.proofs.Members.{not_placed}
 use Rattle.value_model.specs.declared.key.Key.TheVariants.{Null}
 use Rattle.value_model.specs.Plain.{Plain, prim}
 use Rattle.value_model.specs.Order.{key_cmp}

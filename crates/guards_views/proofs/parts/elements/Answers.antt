@@ -1,5 +1,5 @@
 use Rattle.std.proofs.Common.{refl}
-use Rattle.value_model.specs.Steps.{list_of_entries}
+use Rattle.value_model.proofs.Steps.{list_of_entries}
 use Rattle.guards_views.proofs.parts.elements.Goals as goal
 
 pub returns-in-List : goal.returns-in-List

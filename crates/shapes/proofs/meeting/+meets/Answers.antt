@@ -1,6 +1,6 @@
 use Rattle.std.proofs.Common.{◌≡◌, Bool, true, false, not, Option, sym, ap, ◌∙◌}
 use Rattle.std.specs.Prelude.{is_some, is_none}
-use Rattle.value_model.specs.Steps.{list_of_entries}
+use Rattle.value_model.proofs.Steps.{list_of_entries}
 use Rattle.guards_views_spec.specs.Shapes as spec
 use Rattle.shapes.specs.Seen.{of_names}
 use Rattle.shapes.proofs.Firsts.{found_none}

@@ -1,6 +1,6 @@
 use Rattle.std.proofs.Common.{refl}
-use Rattle.value_checks.specs.Members.{not_placed}
-use Rattle.value_model.specs.Search.{found_at}
+use Rattle.value_checks.proofs.Members.{not_placed}
+use Rattle.value_model.proofs.Search.{found_at}
 use Rattle.value_model.specs.declared.key.Key.TheVariants as key_of
 use Rattle.values.specs.Seen.{of_field}
 use Rattle.values.specs.declared.val.Field.{Field}

@@ -1,4 +1,4 @@
-use Rattle.value_model.specs.Steps.{list_of_entries}
+use Rattle.value_model.proofs.Steps.{list_of_entries}
 use Rattle.shapes.proofs.paths.+steps.Goals as goal
 
 pub in_object-returns-in-Obj : goal.in_object-returns-in-Obj
