@@ -17,7 +17,7 @@ use Rattle.script_grammar.specs.Sources.{toks}
 use Rattle.js_expr.specs.Lists.{suffix_next}
 use Rattle.std.specs.Prelude.{◌||◌}
 use Rattle.script_grammar.specs.Trees.{Named, Reserve, Lit, Number, Quote, Ex, Literal}
-use Rattle.script_text.specs.declared.sign.Sign.TheVariants.{Same, NotSame, AtMost, AtLeast, And, Or, OpenRound, CloseRound, OpenBrace, CloseBrace, OpenSquare, CloseSquare, Comma, Semicolon, Colon, Dot, Question, Assign, Less, Greater, Plus, Minus, Star, Percent, Not}
+use Rattle.script_text.specs.declared.sign.Sign.TheVariants.{Same, NotSame, AtMost, AtLeast, And, Or, PlusAssign, MinusAssign, StarAssign, PercentAssign, Ellipsis, OpenRound, CloseRound, OpenBrace, CloseBrace, OpenSquare, CloseSquare, Comma, Semicolon, Colon, Dot, Question, Assign, Less, Greater, Plus, Minus, Star, Percent, Not}
 
 -- what is seen of an integer and of a text
 integer_cases : (P : Tok → Type 0) (n : ℕ) → P Other → P (Integer n) → P (if nat_lt largest n then Other else Integer n)
@@ -222,6 +222,11 @@ suffix_token (Fixed AtMost) = refl
 suffix_token (Fixed AtLeast) = refl
 suffix_token (Fixed And) = refl
 suffix_token (Fixed Or) = refl
+suffix_token (Fixed PlusAssign) = refl
+suffix_token (Fixed MinusAssign) = refl
+suffix_token (Fixed StarAssign) = refl
+suffix_token (Fixed PercentAssign) = refl
+suffix_token (Fixed Ellipsis) = refl
 suffix_token (Fixed OpenRound) = refl
 suffix_token (Fixed CloseRound) = refl
 suffix_token (Fixed OpenBrace) = refl

@@ -10,7 +10,7 @@ mod tests {
 
     /// Each source with its tokens, by their kind's letter (w a word, i an integer, t a text, s a sign) and their
     /// span, or with its fault and offset.
-    const SOURCES: [(&str, &str); 98] = [
+    const SOURCES: [(&str, &str); 106] = [
         ("", ""),
         ("  \t\r\n", ""),
         ("// a", ""),
@@ -63,7 +63,15 @@ mod tests {
         ("|", "Character 0"),
         ("==", "s0-1 s1-2"),
         ("!=", "s0-1 s1-2"),
-        ("...", "s0-1 s1-2 s2-3"),
+        ("..", "s0-1 s1-2"),
+        ("...", "s0-3"),
+        ("....", "s0-3 s3-4"),
+        ("+=", "s0-2"),
+        ("-=", "s0-2"),
+        ("*=", "s0-2"),
+        ("%=", "s0-2"),
+        ("+==", "s0-2 s2-3"),
+        ("&&=", "s0-2 s2-3"),
         ("a=b", "w0-1 s1-2 w2-3"),
         ("a<=b", "w0-1 s1-3 w3-4"),
         ("/", "Character 0"),
@@ -186,7 +194,7 @@ mod tests {
         ("function f(s) { delete (s.a); }", "Unexpected 28"),
         ("function f(s) { (s) = 1; }", "Unexpected 20"),
         ("function f(s) { s + s = 1; }", "Unexpected 22"),
-        ("function f(s) { s += 1; }", "Unexpected 19"),
+        ("function f(s) { s += 1; }", "Unexpected 18"),
         ("function f(s) { {a: 1}.x = 2; }", "Unexpected 18"),
         ("function f(s) { s.if = s.new; }", "1"),
         ("function f(s) { s.'a' = 1; }", "Unexpected 18"),

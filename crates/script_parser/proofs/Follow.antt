@@ -3,7 +3,7 @@ use Rattle.std.proofs.Common.{◌≡◌, ℕ, suc, ◌<◌, Bool, true, false, [
 use Rattle.std.specs.Prelude.{if◌then◌else◌, ◌==◌}
 use Rattle.std.proofs.lemmas.Bool.{eqb-true}
 use Rattle.script_text.specs.declared.sign.Sign.{Sign}
-use Rattle.script_text.specs.declared.sign.Sign.TheVariants.{Same, NotSame, AtMost, AtLeast, And, Or, OpenRound, CloseRound, OpenBrace, CloseBrace, OpenSquare, CloseSquare, Comma, Semicolon, Colon, Question, Assign, Less, Greater, Plus, Minus, Star, Percent, Not, Dot as Point}
+use Rattle.script_text.specs.declared.sign.Sign.TheVariants.{Same, NotSame, AtMost, AtLeast, And, Or, PlusAssign, MinusAssign, StarAssign, PercentAssign, Ellipsis, OpenRound, CloseRound, OpenBrace, CloseBrace, OpenSquare, CloseSquare, Comma, Semicolon, Colon, Question, Assign, Less, Greater, Plus, Minus, Star, Percent, Not, Dot as Point}
 use Rattle.script_text.specs.declared.word.Reserved.TheVariants as kept
 use Rattle.script_grammar.specs.Tokens.{Tok, Name, Kept, Integer, Text, Fixed, Other, Toks}
 use Rattle.script_grammar.specs.Trees.{Lit, Number, Quote, True, False, Null, Undefined, Ex, Literal, Var, Round, ListOf, Object, Member, Unary, Chain, Choice}
@@ -37,6 +37,11 @@ stop_link AtMost h = refl
 stop_link AtLeast h = refl
 stop_link And h = refl
 stop_link Or h = refl
+stop_link PlusAssign h = absurd (omega (arith, h))
+stop_link MinusAssign h = absurd (omega (arith, h))
+stop_link StarAssign h = absurd (omega (arith, h))
+stop_link PercentAssign h = absurd (omega (arith, h))
+stop_link Ellipsis h = absurd (omega (arith, h))
 stop_link OpenRound h = absurd (omega (arith, h))
 stop_link CloseRound h = absurd (omega (arith, h))
 stop_link OpenBrace h = absurd (omega (arith, h))
@@ -123,6 +128,11 @@ starts_unary AtMost h = absurd cc
 starts_unary AtLeast h = absurd cc
 starts_unary And h = absurd cc
 starts_unary Or h = absurd cc
+starts_unary PlusAssign h = absurd cc
+starts_unary MinusAssign h = absurd cc
+starts_unary StarAssign h = absurd cc
+starts_unary PercentAssign h = absurd cc
+starts_unary Ellipsis h = absurd cc
 starts_unary OpenRound h = absurd cc
 starts_unary CloseRound h = absurd cc
 starts_unary OpenBrace h = absurd cc

@@ -3,7 +3,7 @@ use Rattle.std.proofs.Common.{◌≡◌, ℕ, Bool, true, false, List, Some, Non
 use Rattle.std.specs.Prelude.{if◌then◌else◌, ◌==◌}
 use Rattle.std.proofs.lemmas.Bool.{eqb-true}
 use Rattle.script_text.specs.declared.sign.Sign.{Sign}
-use Rattle.script_text.specs.declared.sign.Sign.TheVariants.{Same, NotSame, AtMost, AtLeast, And, Or, OpenRound, CloseRound, OpenBrace, CloseBrace, OpenSquare, CloseSquare, Comma, Semicolon, Colon, Dot, Question, Assign, Less, Greater, Plus, Minus, Star, Percent, Not}
+use Rattle.script_text.specs.declared.sign.Sign.TheVariants.{Same, NotSame, AtMost, AtLeast, And, Or, PlusAssign, MinusAssign, StarAssign, PercentAssign, Ellipsis, OpenRound, CloseRound, OpenBrace, CloseBrace, OpenSquare, CloseSquare, Comma, Semicolon, Colon, Dot, Question, Assign, Less, Greater, Plus, Minus, Star, Percent, Not}
 use Rattle.script_text.specs.declared.word.Reserved.{Reserved}
 use Rattle.script_text.specs.declared.word.Reserved.TheVariants as kept
 use Rattle.script_text.specs.Signs.{signs}
@@ -25,6 +25,11 @@ decode_code AtMost = refl
 decode_code AtLeast = refl
 decode_code And = refl
 decode_code Or = refl
+decode_code PlusAssign = refl
+decode_code MinusAssign = refl
+decode_code StarAssign = refl
+decode_code PercentAssign = refl
+decode_code Ellipsis = refl
 decode_code OpenRound = refl
 decode_code CloseRound = refl
 decode_code OpenBrace = refl
@@ -210,6 +215,11 @@ is_fixed AtMost = refl
 is_fixed AtLeast = refl
 is_fixed And = refl
 is_fixed Or = refl
+is_fixed PlusAssign = refl
+is_fixed MinusAssign = refl
+is_fixed StarAssign = refl
+is_fixed PercentAssign = refl
+is_fixed Ellipsis = refl
 is_fixed OpenRound = refl
 is_fixed CloseRound = refl
 is_fixed OpenBrace = refl

@@ -1,7 +1,7 @@
 -- Tests of one token.
 use Rattle.std.specs.Prelude.{ℕ, Bool, true, false, if◌then◌else◌, ◌==◌, List, Option, Some, None}
 use Rattle.script_text.specs.declared.sign.Sign.{Sign}
-use Rattle.script_text.specs.declared.sign.Sign.TheVariants.{Same, NotSame, AtMost, AtLeast, And, Or, OpenRound, CloseRound, OpenBrace, CloseBrace, OpenSquare, CloseSquare, Comma, Semicolon, Colon, Dot, Question, Assign, Less, Greater, Plus, Minus, Star, Percent, Not}
+use Rattle.script_text.specs.declared.sign.Sign.TheVariants.{Same, NotSame, AtMost, AtLeast, And, Or, PlusAssign, MinusAssign, StarAssign, PercentAssign, Ellipsis, OpenRound, CloseRound, OpenBrace, CloseBrace, OpenSquare, CloseSquare, Comma, Semicolon, Colon, Dot, Question, Assign, Less, Greater, Plus, Minus, Star, Percent, Not}
 use Rattle.script_text.specs.declared.word.Reserved.{Reserved}
 use Rattle.script_text.specs.Words.{word_code}
 use Rattle.script_text.specs.declared.word.Reserved.TheVariants as kept
@@ -17,25 +17,30 @@ code AtMost = 2
 code AtLeast = 3
 code And = 4
 code Or = 5
-code OpenRound = 6
-code CloseRound = 7
-code OpenBrace = 8
-code CloseBrace = 9
-code OpenSquare = 10
-code CloseSquare = 11
-code Comma = 12
-code Semicolon = 13
-code Colon = 14
-code Dot = 15
-code Question = 16
-code Assign = 17
-code Less = 18
-code Greater = 19
-code Plus = 20
-code Minus = 21
-code Star = 22
-code Percent = 23
-code Not = 24
+code PlusAssign = 6
+code MinusAssign = 7
+code StarAssign = 8
+code PercentAssign = 9
+code Ellipsis = 10
+code OpenRound = 11
+code CloseRound = 12
+code OpenBrace = 13
+code CloseBrace = 14
+code OpenSquare = 15
+code CloseSquare = 16
+code Comma = 17
+code Semicolon = 18
+code Colon = 19
+code Dot = 20
+code Question = 21
+code Assign = 22
+code Less = 23
+code Greater = 24
+code Plus = 25
+code Minus = 26
+code Star = 27
+code Percent = 28
+code Not = 29
 
 -- this sign
 abbrev pub fixed : Sign → Tok → Option (Unit {0})

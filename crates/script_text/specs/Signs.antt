@@ -2,7 +2,7 @@
 use Rattle.std.specs.Prelude.{ℕ, if◌then◌else◌, List, [], ◌∷◌, Option, Some, None, codes, nat_eq}
 use Rattle.std.specs.List.{starts_with}
 pub use Rattle.script_text.specs.declared.sign.Sign.{Sign}
-pub use Rattle.script_text.specs.declared.sign.Sign.TheVariants.{Same, NotSame, AtMost, AtLeast, And, Or, OpenRound, CloseRound, OpenBrace, CloseBrace, OpenSquare, CloseSquare, Comma, Semicolon, Colon, Dot, Question, Assign, Less, Greater, Plus, Minus, Star, Percent, Not}
+pub use Rattle.script_text.specs.declared.sign.Sign.TheVariants.{Same, NotSame, AtMost, AtLeast, And, Or, PlusAssign, MinusAssign, StarAssign, PercentAssign, Ellipsis, OpenRound, CloseRound, OpenBrace, CloseBrace, OpenSquare, CloseSquare, Comma, Semicolon, Colon, Dot, Question, Assign, Less, Greater, Plus, Minus, Star, Percent, Not}
 
 abbrev pub spelling : Sign → List ℕ
 spelling Same = codes "==="
@@ -11,6 +11,11 @@ spelling AtMost = codes "<="
 spelling AtLeast = codes ">="
 spelling And = codes "&&"
 spelling Or = codes "||"
+spelling PlusAssign = codes "+="
+spelling MinusAssign = codes "-="
+spelling StarAssign = codes "*="
+spelling PercentAssign = codes "%="
+spelling Ellipsis = codes "..."
 spelling OpenRound = codes "("
 spelling CloseRound = codes ")"
 spelling OpenBrace = codes "{"
@@ -33,7 +38,7 @@ spelling Not = codes "!"
 
 -- every sign, a longer one before each that it begins with
 abbrev pub signs : List Sign
-signs = Same ∷ NotSame ∷ AtMost ∷ AtLeast ∷ And ∷ Or ∷ OpenRound ∷ CloseRound ∷ OpenBrace ∷ CloseBrace ∷ OpenSquare ∷ CloseSquare ∷ Comma ∷ Semicolon ∷ Colon ∷ Dot ∷ Question ∷ Assign ∷ Less ∷ Greater ∷ Plus ∷ Minus ∷ Star ∷ Percent ∷ Not ∷ []
+signs = Same ∷ NotSame ∷ AtMost ∷ AtLeast ∷ And ∷ Or ∷ PlusAssign ∷ MinusAssign ∷ StarAssign ∷ PercentAssign ∷ Ellipsis ∷ OpenRound ∷ CloseRound ∷ OpenBrace ∷ CloseBrace ∷ OpenSquare ∷ CloseSquare ∷ Comma ∷ Semicolon ∷ Colon ∷ Dot ∷ Question ∷ Assign ∷ Less ∷ Greater ∷ Plus ∷ Minus ∷ Star ∷ Percent ∷ Not ∷ []
 
 -- the first of these that the bytes begin with
 abbrev pub first_sign : List Sign → List ℕ → Option Sign

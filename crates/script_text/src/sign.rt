@@ -18,6 +18,16 @@ pub enum Sign {
     And,
     /// `||`
     Or,
+    /// `+=`
+    PlusAssign,
+    /// `-=`
+    MinusAssign,
+    /// `*=`
+    StarAssign,
+    /// `%=`
+    PercentAssign,
+    /// `...`
+    Ellipsis,
     /// `(`
     OpenRound,
     /// `)`
@@ -59,13 +69,18 @@ pub enum Sign {
 }
 
 /// Every sign, a longer one before each that it begins with.
-pub const SIGNS: [Sign; 25] = [
+pub const SIGNS: [Sign; 30] = [
     Sign::Same,
     Sign::NotSame,
     Sign::AtMost,
     Sign::AtLeast,
     Sign::And,
     Sign::Or,
+    Sign::PlusAssign,
+    Sign::MinusAssign,
+    Sign::StarAssign,
+    Sign::PercentAssign,
+    Sign::Ellipsis,
     Sign::OpenRound,
     Sign::CloseRound,
     Sign::OpenBrace,
@@ -99,6 +114,11 @@ impl Sign {
             Sign::AtLeast => ">=",
             Sign::And => "&&",
             Sign::Or => "||",
+            Sign::PlusAssign => "+=",
+            Sign::MinusAssign => "-=",
+            Sign::StarAssign => "*=",
+            Sign::PercentAssign => "%=",
+            Sign::Ellipsis => "...",
             Sign::OpenRound => "(",
             Sign::CloseRound => ")",
             Sign::OpenBrace => "{",
