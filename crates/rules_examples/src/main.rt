@@ -4,8 +4,11 @@
 //! `verdict RULES | NAME | PATH`. A line that begins with `#` is a remark.
 #![tactic(auto)]
 
+ghost use Rattle.std.specs.Prelude.{◌≡◌};
+ghost use Rattle.guards_views_spec.specs.Shapes as spec;
+
 use anyhow::Context;
-use guards_views::{Rules, RulesFault, Verdict, broken, meets};
+use guards_views::{Guard, Rules, RulesFault, Shape, Verdict, broken, meets};
 use std::alloc::Global;
 use std::io::{BufRead, BufReader};
 use value_json::{read_path, read_value, write_value};
@@ -49,6 +52,14 @@ fn rules_line(alloc: Global, text: &str) -> anyhow::Result<String> {
     }
 }
 
+/// Whether a guard of the shape allows a value.
+fn is_allowed(shape: &Shape, v: &Val) -> bool
+    ensures { result ≡ spec.meets shape.now v.now }
+{
+    let guard = Guard::new(shape, |w: &Val| meets(shape, w));
+    guard.allows(v)
+}
+
 fn broken_line(alloc: Global, shape: &str, text: &str) -> anyhow::Result<String> {
     let guard = format!(in alloc; "{{\"guard\":{shape}}}")?;
     let Some(rules) = rules(alloc, guard.as_str())? else {
@@ -56,7 +67,7 @@ fn broken_line(alloc: Global, shape: &str, text: &str) -> anyhow::Result<String>
     };
     let v = value(alloc, text)?;
     match broken(alloc, rules.shape(), &v)? {
-        None => Ok(format!(in alloc; "met {}", meets(rules.shape(), &v))?),
+        None => Ok(format!(in alloc; "met {}", is_allowed(rules.shape(), &v))?),
         Some(path) => {
             let place = path_text(alloc, path)?;
             Ok(format!(in alloc; "broken at {place}, met {}", meets(rules.shape(), &v))?)

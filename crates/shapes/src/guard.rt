@@ -9,6 +9,7 @@ use values::Val;
 /// A shape and a test that answers whether a value meets it.
 ///
 /// The calls that run the test ask that it is such a test (`Tests`); a guard keeps its shape and its test as they were given.
+#[derive(Drop)]
 pub struct Guard<'a, F> {
     shape: &'a Shape,
     test: F,

@@ -1,0 +1,11 @@
+//! Views: a sum over the entries of a container, kept with what each entry adds, and brought up to date from patches.
+#![tactic(auto)]
+
+mod measure;
+mod view;
+mod weights;
+
+pub use guards_views_spec::{ViewRule, Weigh};
+pub use measure::Measure;
+pub use view::View;
+pub use weights::Weights;
