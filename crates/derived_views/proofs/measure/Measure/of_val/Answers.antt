@@ -1,5 +1,5 @@
 use Rattle.std.proofs.Common.{◌≡◌, ◌≤◌, ◌^◌, arith, refl, ◌∙◌}
-use Rattle.value_model.specs.Steps.{list_of_entries}
+use Rattle.value_model.proofs.Steps.{list_of_entries}
 use Rattle.value_model.specs.declared.kind.Kind.TheVariants as kind
 use Rattle.values.specs.Seen.{of_fields, of_entries, of_items, of_members}
 use Rattle.derived_views.proofs.Limits.{children_accepted, light_entries}
