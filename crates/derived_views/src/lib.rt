@@ -2,10 +2,12 @@
 #![tactic(auto)]
 
 mod measure;
+mod touched;
 mod view;
 mod weights;
 
 pub use guards_views_spec::{ViewRule, Weigh};
 pub use measure::Measure;
+pub use touched::Touched;
 pub use view::View;
 pub use weights::Weights;

@@ -2,12 +2,14 @@
 ghost use Rattle.std.specs.Prelude.{◌≡◌, ◌≤◌, ◌^◌, IfOk, option_map};
 ghost use Rattle.guards_views_spec.specs.Views as spec;
 ghost use Rattle.derived_views.specs.Accepted.{Measures, AcceptedAt, ChangesAccepted};
+ghost use Rattle.derived_views.specs.Touching.{Touches};
 
 use crate::measure::Measure;
+use crate::touched::{Touched, touched_at};
 use crate::weights::{Weights, put_weight, remove_weight};
 use guards_views_spec::Weigh;
 use std::alloc::{AllocError, Global};
-use values::{Key, Path, Val};
+use values::{Key, Patches, Path, Val};
 
 /// What the entries of the container at a path add, kept entry by entry, with their sum.
 ///
@@ -68,6 +70,14 @@ impl<F: Fn(&Val) -> u64> View<F> {
             }),
             Err(e) => Err(e),
         }
+    }
+
+    /// What patches touch of the container: `Whole` exactly where the path of some patch is the view's path or a front of it; else
+    /// the next steps of the patches whose paths go on from the view's path, each step once.
+    pub fn touched(&self, alloc: Global, patches: &Patches) -> Result<Touched, AllocError>
+        ensures { IfOk result (λ t. Touches t (spec.touched self.now.path patches.now)) }
+    {
+        touched_at(alloc, self.path.as_slice(), patches.as_slice())
     }
 
     /// The view with these entries set to what their values add, or taken out where they have none.
