@@ -1,2 +1,6 @@
 pub mod EditLaws
 pub mod ChildLaws
+pub mod KeptLaws
+pub mod WeightLaws
+pub mod ListLaws
+pub mod ViewLaws
