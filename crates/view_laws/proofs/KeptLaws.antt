@@ -102,8 +102,8 @@ down_kept kind j es v w path r was kept =
     subst (λ (o : Option Plain). Kept r o (at (j ∷ path) (node kind (entries (with_child kind j (list_of es) w))))) (sym before) (subst (Kept r (at path v)) (sym after) kept)
 
 -- ---- a patch
-Law : Op → Option Plain → List Key → List Key → Type 0
-abbrev Law op v path q = (x y : Plain) → NotAbove (reach path q) → in_place op v q x ≡ true → patched op v q x ≡ Ok y → Kept (reach path q) (at path x) (at path y)
+abbrev Law : Op → Option Plain → List Key → List Key → Type 0
+Law op v path q = (x y : Plain) → NotAbove (reach path q) → in_place op v q x ≡ true → patched op v q x ≡ Ok y → Kept (reach path q) (at path x) (at path y)
 
 last_here : (op : Op) (v : Option Plain) (j : Key) → Law op v [] (j ∷ [])
 last_here op v j (prim k) y n p h = absurd (cc)

@@ -80,8 +80,8 @@ next path sofar more keys r x z y first misses rest = record {
   ascends = λ h. rest.ascends (first.ascends h);
 }
 
-Rest : List Key → List Patch → Type 0
-abbrev Rest path ps = (sofar keys : List Key) (x y : Plain) → touched_from path sofar ps ≡ Some keys → IsTrue (are_in_place ps x) → Leads ps x y → Left path sofar keys x y
+abbrev Rest : List Key → List Patch → Type 0
+Rest path ps = (sofar keys : List Key) (x y : Plain) → touched_from path sofar ps ≡ Some keys → IsTrue (are_in_place ps x) → Leads ps x y → Left path sofar keys x y
 
 -- by where the patch leads
 by_reach : (path sofar keys : List Key) (p : Patch) (ps : List Patch) (r : Reach) (x z y : Plain) → Rest path ps

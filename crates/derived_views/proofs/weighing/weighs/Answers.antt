@@ -1,0 +1,6 @@
+use Rattle.std.proofs.Common.{arith}
+use Rattle.derived_views.proofs.Limits.{within}
+use Rattle.derived_views.proofs.weighing.weighs.Goals as goal
+
+pub returns-in-Weight : goal.returns-in-Weight
+returns-in-Weight c = let l = (within c.args.v.now c.requires).light in omega (arith, c.weight.ensures)
