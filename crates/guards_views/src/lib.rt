@@ -9,6 +9,7 @@ mod shape_reading;
 mod texts;
 mod view_reading;
 
+pub use derived_views::{Touched, View, ViewRule, Weigh, copy_weigh, weighs};
 pub use fault::RulesFault;
 pub use grants::{Grant, GrantRule, Grants, NamedGrant, Verdict};
 pub use rules::{Rules, Views};

@@ -1,17 +1,20 @@
 //! Worked examples of rules.
 //!
-//! Each line of the input is a word and texts of JSON between bars: `rules RULES`, `broken SHAPE | VALUE`, `views RULES | VALUE`,
-//! `verdict RULES | NAME | PATH`. A line that begins with `#` is a remark.
+//! Each line of the input is a word and texts of JSON between bars: `rules RULES`, `broken SHAPE | VALUE`,
+//! `views RULES | VALUE | PATCHES`, `verdict RULES | NAME | PATH`. A line that begins with `#` is a remark.
 #![tactic(auto)]
 
 ghost use Rattle.std.specs.Prelude.{◌≡◌};
 ghost use Rattle.guards_views_spec.specs.Shapes as spec;
 
+mod views;
+
 use anyhow::Context;
 use guards_views::{Guard, Rules, RulesFault, Shape, Verdict, broken, meets};
 use std::alloc::Global;
 use std::io::{BufRead, BufReader};
-use value_json::{read_path, read_value, write_value};
+use plain_apply::apply_plain;
+use value_json::{read_patches, read_path, read_value, write_value};
 use values::{Path, Val, ValNode};
 
 /// The value of a text of JSON.
@@ -75,6 +78,27 @@ fn broken_line(alloc: Global, shape: &str, text: &str) -> anyhow::Result<String>
     }
 }
 
+/// Each view of the rules: its name, its sum before and after the patches, and how many of its entries they touch.
+fn views_line(alloc: Global, text: &str, state: &str, list: &str) -> anyhow::Result<String> {
+    let Some(rules) = rules(alloc, text)? else {
+        return Ok(String::from_str(alloc, "no rules")?);
+    };
+    let old = value(alloc, state)?;
+    let patches = read_patches(alloc, list.trim().as_bytes())?;
+    let new = apply_plain(alloc, &old, &patches)?;
+    let mut out = String::new(alloc);
+    for rule in rules.views().as_slice() {
+        let words = views::view_words(alloc, rule, &old, &patches, &new)?;
+        if !out.is_empty() {
+            out.push_str("; ")?;
+        }
+        out.push_str(rule.name.as_str())?;
+        out.push_str(": ")?;
+        out.push_str(words.as_str())?;
+    }
+    Ok(out)
+}
+
 fn verdict_line(alloc: Global, text: &str, name: &str, place: &str) -> anyhow::Result<String> {
     let Some(rules) = rules(alloc, text)? else {
         return Ok(String::from_str(alloc, "no rules")?);
@@ -99,6 +123,9 @@ fn answer(alloc: Global, line: &str) -> anyhow::Result<String> {
         return broken_line(alloc, first, rest);
     }
     let (second, third) = rest.split_once(" | ").context("three texts")?;
+    if word == "views" {
+        return views_line(alloc, first, second, third);
+    }
     verdict_line(alloc, first, second, third)
 }
 

@@ -33,7 +33,7 @@ pub passed_test : {X : Type 0} (b : Bool) (w : PatchWhy) (r : Result X PatchWhy)
 passed_test true w r x h = absurd (cc)
 passed_test false w r x h = refl
 
-pub ok_is : {X : Type 0} (x y : X) → Ok {T = X} {E = PatchWhy} x ≡ Ok y → x ≡ y
+pub ok_is : {X : Type 0} (x y : X) → (let r : Result X PatchWhy = Ok x in r ≡ Ok y) → x ≡ y
 ok_is x y h = cc
 
 valued : (v : Option Plain) (f : Plain → Result Table PatchWhy) (es : Table) → with_value v f ≡ Ok es → (w : Plain) × (v ≡ Some w) × (f w ≡ Ok es)
@@ -93,9 +93,15 @@ object_stays : (op : Op) (j : Key) (v : Option Plain) (es new : Table) → in_ob
 object_stays Remove (key.Text s) v es new h = removed_obj s es new h
 object_stays Add (key.Text s) v es new h = written_obj s v es new h
 object_stays Replace (key.Text s) v es new h = written_obj s v es new h
-object_stays op key.Null v es new h = absurd (cc)
-object_stays op (key.Bool b) v es new h = absurd (cc)
-object_stays op (key.Int n) v es new h = absurd (cc)
+object_stays Add key.Null v es new h = absurd (cc)
+object_stays Add (key.Bool b) v es new h = absurd (cc)
+object_stays Add (key.Int n) v es new h = absurd (cc)
+object_stays Replace key.Null v es new h = absurd (cc)
+object_stays Replace (key.Bool b) v es new h = absurd (cc)
+object_stays Replace (key.Int n) v es new h = absurd (cc)
+object_stays Remove key.Null v es new h = absurd (cc)
+object_stays Remove (key.Bool b) v es new h = absurd (cc)
+object_stays Remove (key.Int n) v es new h = absurd (cc)
 
 -- ---- Maps
 written_map : (k : Key) (v : Option Plain) (es new : Table) → unless (is_long_key k) why.KeyTooLong (with_value v (λ w. Ok (put_entry k w es))) ≡ Ok new → Stays kind.Map k es new
