@@ -78,7 +78,7 @@ fn broken_line(alloc: Global, shape: &str, text: &str) -> anyhow::Result<String>
     }
 }
 
-/// Each view of the rules: its name, its sum before and after the patches, and how many of its entries they touch.
+/// Each view of the rules: its name, its sum before and after the patches, and the steps of the entries that they touch.
 fn views_line(alloc: Global, text: &str, state: &str, list: &str) -> anyhow::Result<String> {
     let Some(rules) = rules(alloc, text)? else {
         return Ok(String::from_str(alloc, "no rules")?);

@@ -7,6 +7,7 @@ ghost use Rattle.values.specs.Seen.{of_member};
 ghost use Rattle.derived_views.specs.Accepted.{Measures, AcceptedAt, ChangesAccepted};
 ghost use Rattle.rules_examples.specs.Added.{added, weight_of};
 
+use crate::path_text;
 use anyhow::bail;
 use guards_views::{Touched, View, ViewRule, copy_weigh, weighs};
 use std::alloc::Global;
@@ -16,7 +17,7 @@ use values::{Key, Patches, Path, Val, ValNode, weight};
 /// An entry of a container and what stands there.
 type Change = (Key, Option<Val>);
 
-/// What a view adds up to, what patches from an old state to a new one touch, and what it then adds up to.
+/// What a view adds up to, the steps that patches from an old state to a new one touch, and what it then adds up to.
 pub fn view_words(
     alloc: Global,
     rule: &ViewRule,
@@ -49,16 +50,16 @@ fn follow<F: Fn(&Val) -> u64 + Drop>(
     match view.touched(alloc, patches)? {
         Touched::Whole => {
             let after = view.again(alloc, here)?.total();
-            Ok(format!(in alloc; "{before}, all touched, {after}")?)
+            Ok(format!(in alloc; "{before}, touched as a whole, then {after}")?)
         }
         Touched::Keys(keys) => {
-            let count = keys.len();
             let changed = standing(alloc, here, &keys)?;
             if !fits(before, &changed) {
                 bail!(in alloc; "too large a sum");
             }
             let after = view.update(alloc, &changed)?.total();
-            Ok(format!(in alloc; "{before}, {count} touched, {after}")?)
+            let steps = path_text(alloc, Path::from_vec(keys))?;
+            Ok(format!(in alloc; "{before}, touched {steps}, then {after}")?)
         }
     }
 }
