@@ -147,6 +147,9 @@ at_set_suc (e ∷ es) zero (suc n) x h d = refl
 at_set_suc (e ∷ es) (suc i) zero x h d = refl
 at_set_suc (e ∷ es) (suc i) (suc n) x h d = at_set_suc es i n x (omega arith) (λ q. d (ap suc q))
 
+at_set : (es : Table) (i n : ℕ) (x : Key × Plain) → i ≤ length es → n ≢ i → element_at n (take i es ++ x ∷ drop (i + 1) es) ≡ element_at n es
+at_set es i n x h d = rw add-one (at_set_suc es i n x h d)
+
 at_cut : (es : Table) (i n : ℕ) → suc i ≡ length es → n ≢ i → element_at n (remove es i) ≡ element_at n es
 at_cut [] i n h d = absurd (omega arith)
 at_cut (e ∷ []) zero zero h d = absurd (d refl)
@@ -176,7 +179,7 @@ list_set : (i : ℕ) (v : Option Plain) (es new : Table) → set_at (pos i) v es
 list_set i v es new h =
     let here : i ≤ length es = ltb-false _ _ (passed_test (nat_lt (length es) i) _ _ _ h) in
     let c = valued v _ new (passed (nat_lt (length es) i) _ _ _ h) in
-    stays_same kind.List _ es new _ (ok_is _ _ c.2) (of_list i es _ (λ n d. rw add-one (at_set_suc es i n (element c.0) here d)))
+    stays_same kind.List _ es new _ (ok_is _ _ c.2) (of_list i es _ (λ n d. at_set es i n (element c.0) here d))
 
 list_cut : (i : ℕ) (es new : Table) → (suc i == length es) ≡ true → take_out (pos i) es ≡ Ok new → Stays kind.List (key.Int (pos i)) es new
 list_cut i es new m h =
