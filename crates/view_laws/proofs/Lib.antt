@@ -4,3 +4,4 @@ pub mod KeptLaws
 pub mod WeightLaws
 pub mod ListLaws
 pub mod ViewLaws
+pub mod HostLaws
