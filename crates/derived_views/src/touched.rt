@@ -41,7 +41,7 @@ pub(crate) fn touched_at(
     for p in patches {
         match way(path, p.path.as_slice()) {
             Way::Above => return Ok(Touched::Whole),
-            Way::Inside(key) => add_key(alloc, &mut keys, key)?,
+            Way::Inside(key) => add_key(&mut keys, key.copy(alloc)?)?,
             Way::Aside => {}
         }
     }
@@ -61,8 +61,8 @@ fn way<'a>(path: &[Key], place: &'a [Key]) -> Way<'a>
         }
         rest = more;
     }
-    match rest.first() {
-        Some(key) => Way::Inside(key),
+    match rest.split_first() {
+        Some((key, _)) => Way::Inside(key),
         None => Way::Above,
     }
 }
@@ -74,13 +74,13 @@ fn place(keys: &[Key], key: &Key) -> Result<usize, usize>
     keys.binary_search_by(|k| k.compare(key))
 }
 
-fn add_key(alloc: Global, keys: &mut Vec<Key>, key: &Key) -> Result<(), AllocError>
+fn add_key(keys: &mut Vec<Key>, key: Key) -> Result<(), AllocError>
     requires { IsTrue (is_sorted key_cmp (map of_member keys.old.items)) }
-    ensures added { OnOk result (keys.new.items ≡ spec.with_key key.now keys.old.items) }
+    ensures added { OnOk result (keys.new.items ≡ spec.with_key key keys.old.items) }
     ensures sorted { OnOk result (IsTrue (is_sorted key_cmp (map of_member keys.new.items))) }
 {
-    match place(keys, key) {
+    match place(keys, &key) {
         Ok(_) => Ok(()),
-        Err(at) => Ok(keys.insert(at, key.copy(alloc)?)?),
+        Err(at) => Ok(keys.insert(at, key)?),
     }
 }

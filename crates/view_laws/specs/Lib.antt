@@ -1,3 +1,4 @@
+pub mod Examples
 pub mod InPlace
 pub mod Standing
 pub mod Step
