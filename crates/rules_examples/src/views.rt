@@ -37,6 +37,7 @@ pub fn view_words(
 }
 
 /// The same of a view of the old state.
+#[tactic(auto, using(crate::proofs::Sums::updated_at_most))]
 fn follow<F: Fn(&Val) -> u64 + Drop>(
     alloc: Global,
     view: View<F>,
@@ -55,7 +56,7 @@ fn follow<F: Fn(&Val) -> u64 + Drop>(
         Touched::Keys(keys) => {
             let changed = standing(alloc, here, &keys)?;
             if !fits(before, &changed) {
-                bail!(in alloc; "too large a sum");
+                bail!("too large a sum");
             }
             let after = view.update(alloc, &changed)?.total();
             let steps = path_text(alloc, Path::from_vec(keys))?;

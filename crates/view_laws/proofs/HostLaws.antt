@@ -36,7 +36,7 @@ changed k (Some v) None ps h = one_more Remove k None ps h
 changed k (Some v) (Some w) ps h = replaced (same v w) k w ps h
 
 all_changed : (ks : List Key) (old new : Table) → InPlaces (changes ks old new)
-all_changed [] old new es = refl
+all_changed [] old new = λ es. refl
 all_changed (k ∷ ks) old new = changed k (find key_cmp k old) (find key_cmp k new) (changes ks old new) (all_changed ks old new)
 
 pub differences_in_place : (old new : Table) (es : Entries) → IsTrue (are_in_place (differences old new) (node kind.Obj es))
