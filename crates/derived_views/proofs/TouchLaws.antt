@@ -1,6 +1,6 @@
 -- Ascending keys with one more: what the search for its place leaves.
 use Rattle.std.specs.Prelude.{◌≡◌, ℕ, ◌<◌, ◌≤◌, List, [], ◌∷◌, map, length, IsTrue, refl}
-use Rattle.std.proofs.Common.{zero, suc, ap, sym, subst, ◌∙◌, arith, get_or, Less, Equal, Greater}
+use Rattle.std.proofs.Common.{zero, suc, ap, sym, arith, get_or, Less, Equal, Greater}
 use Rattle.std.specs.declared.cmp.Ordering.{Ordering}
 use Rattle.std.specs.List.{insert}
 use Rattle.std.specs.FinMap.Entries.{put, is_sorted}

@@ -39,7 +39,7 @@ pub(crate) fn touched_at(
 {
     let mut keys = Vec::new(alloc);
     for p in patches {
-        match way(path, p.path.as_slice()) {
+        match way_of(path, p.path.as_slice()) {
             Way::Above => return Ok(Touched::Whole),
             Way::Inside(key) => add_key(&mut keys, key.copy(alloc)?)?,
             Way::Aside => {}
@@ -48,7 +48,7 @@ pub(crate) fn touched_at(
     Ok(Touched::Keys(keys))
 }
 
-fn way<'a>(path: &[Key], place: &'a [Key]) -> Way<'a>
+fn way_of<'a>(path: &[Key], place: &'a [Key]) -> Way<'a>
     ensures { Leads result (spec.reach path.now place.now) }
 {
     let mut rest = place;

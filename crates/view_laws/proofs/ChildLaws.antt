@@ -1,15 +1,14 @@
 -- A container with another child at a step that has one: the child is there, every other entry stays, and the keys ascend as before.
-use Rattle.std.specs.Prelude.{◌≡◌, ◌≢◌, ℕ, pos, negsuc, List, [], ◌∷◌, map, Option, Some, None, IsTrue, slice_get, slice_set, refl}
+use Rattle.std.specs.Prelude.{◌≡◌, ◌≢◌, ℕ, pos, negsuc, [], ◌∷◌, Some, slice_set, refl}
 use Rattle.std.proofs.Common.{zero, suc, ap}
 use Rattle.value_model.specs.declared.key.Key.{Key}
 use Rattle.value_model.specs.declared.key.Key.TheVariants as key
 use Rattle.value_model.specs.declared.kind.Kind.{Kind}
 use Rattle.value_model.specs.declared.kind.Kind.TheVariants as kind
-use Rattle.value_model.specs.Places.{ascends_at, child_at}
+use Rattle.value_model.specs.Places.{child_at}
 use Rattle.value_model.specs.Plain.{Plain, Table}
 use Rattle.value_model.proofs.Tables.{find_put_same, find_put_other, put_ascends}
 use Rattle.patch_meaning.specs.Applying.{element, with_child}
-use Rattle.view_laws.specs.Standing.{entry_in}
 use Rattle.view_laws.proofs.EditLaws.{Stays, element_at, elements}
 
 pub record Child (kind : Kind) (j : Key) (old : Table) (w : Plain) : Type 0 where

@@ -1,9 +1,7 @@
 -- What an operation at a step leaves: every other entry, and the order of the keys.
-use Rattle.std.specs.Prelude.{◌≡◌, ◌≢◌, ℕ, ◌+◌, ◌≤◌, ◌<◌, ◌==◌, ℤ, pos, negsuc, Bool, true, false, List, [], ◌∷◌, ◌++◌, map, length, Option, Some, None, Result, Ok, Err, codes, IsTrue, slice_get, slice_set, nat_lt, nat_le, refl}
-use Rattle.std.proofs.Common.{zero, suc, ap, sym, subst, ◌∙◌, ◌⊎◌, inl, inr, arith, take, drop, add-one, Less, Equal, Greater}
+use Rattle.std.specs.Prelude.{◌≡◌, ◌≢◌, ℕ, ◌+◌, ◌≤◌, ◌==◌, pos, negsuc, Bool, true, false, List, [], ◌∷◌, ◌++◌, map, length, Option, Some, None, Result, Ok, IsTrue, slice_get, nat_lt, nat_le, refl}
+use Rattle.std.proofs.Common.{zero, suc, ap, subst, arith, take, drop, add-one, Less, Equal, Greater}
 use Rattle.std.specs.List.{insert, remove}
-use Rattle.std.specs.Str.{bytes_eq}
-use Rattle.std.specs.FinMap.Entries.{find, put, is_sorted}
 use Rattle.std.specs.Ordering.{eq_by_cmp, is_eq}
 use Rattle.std.proofs.lemmas.Bool.{eqb-true, ltb-false}
 use Rattle.std.specs.declared.cmp.Ordering.{Ordering}
@@ -18,9 +16,9 @@ use Rattle.value_model.specs.declared.patch_why.PatchWhy.TheVariants as why
 use Rattle.value_model.specs.Limits.{is_long_key, is_reserved_text}
 use Rattle.value_model.specs.Order.{key_cmp, key_exact}
 use Rattle.value_model.specs.Places.{without_key, ascends_at, child_at}
-use Rattle.value_model.specs.Plain.{Plain, Entries, Table, prim, node, entries, list_of}
+use Rattle.value_model.specs.Plain.{Plain, Entries, Table, prim, node, list_of}
 use Rattle.value_model.proofs.Tables.{is_eq-same, find_put_other, find_without_other, put_ascends, without_ascends}
-use Rattle.patch_meaning.specs.Applying.{unless, with_value, put_entry, in_object, in_map, in_set, with_member, element, insert_at, set_at, take_out, in_list, edited}
+use Rattle.patch_meaning.specs.Applying.{unless, with_value, put_entry, in_object, in_map, in_set, element, insert_at, set_at, take_out, in_list, edited}
 use Rattle.view_laws.specs.InPlace.{is_element, is_member, changes_entry}
 use Rattle.view_laws.specs.Standing.{entry_in}
 

@@ -1,6 +1,5 @@
 -- The patches that a host makes of a flat state are in place: each is one of an entry of the object.
-use Rattle.std.specs.Prelude.{◌≡◌, Bool, true, false, ◌&&◌, List, [], ◌∷◌, ◌++◌, Option, Some, None, Result, Ok, Err, IsTrue, if◌then◌else◌, refl}
-use Rattle.std.proofs.Common.{ap, ◌∙◌, cond}
+use Rattle.std.specs.Prelude.{◌≡◌, Bool, true, false, List, [], ◌∷◌, ◌++◌, Option, Some, None, Result, Ok, Err, IsTrue, if◌then◌else◌, refl}
 use Rattle.std.specs.FinMap.Entries.{find}
 use Rattle.value_model.specs.declared.key.Key.{Key}
 use Rattle.value_model.specs.declared.kind.Kind.TheVariants as kind
@@ -10,7 +9,7 @@ use Rattle.value_model.specs.declared.patch_why.PatchWhy.{PatchWhy}
 use Rattle.value_model.specs.Order.{key_cmp}
 use Rattle.value_model.specs.Plain.{Plain, Entries, Table, node, entries, list_of}
 use Rattle.values.specs.declared.patch.Patch.{Patch}
-use Rattle.patch_meaning.specs.Applying.{as_node, in_object, patched}
+use Rattle.patch_meaning.specs.Applying.{as_node, in_object}
 use Rattle.host_machine.specs.Differences.{same, union, keys, patch, change, changes, differences}
 use Rattle.view_laws.specs.InPlace.{if_ok, are_in_place}
 

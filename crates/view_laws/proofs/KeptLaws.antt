@@ -1,10 +1,9 @@
 -- A patch in place leaves every entry of a view's container that it doesn't touch, and the order of the container's keys.
-use Rattle.std.specs.Prelude.{◌≡◌, ◌≢◌, ◌+◌, ℕ, Bool, true, false, ◌&&◌, ◌||◌, List, [], ◌∷◌, Option, Some, None, Result, Ok, Err, IsTrue, refl}
+use Rattle.std.specs.Prelude.{◌≡◌, ◌≢◌, Bool, true, false, List, [], ◌∷◌, Option, Some, None, Result, Ok, Err, IsTrue, refl}
 use Rattle.std.proofs.Common.{ap, sym, subst, ◌∙◌, cond}
 use Rattle.std.specs.Ordering.{eq_by_cmp}
 use Rattle.value_model.specs.declared.key.Key.{Key}
 use Rattle.value_model.specs.declared.kind.Kind.{Kind}
-use Rattle.value_model.specs.declared.kind.Kind.TheVariants as kind
 use Rattle.value_model.specs.declared.op.Op.{Op}
 use Rattle.value_model.specs.declared.patch_why.PatchWhy.{PatchWhy}
 use Rattle.value_model.specs.declared.patch_why.PatchWhy.TheVariants as why
@@ -12,9 +11,9 @@ use Rattle.value_model.specs.Order.{key_cmp}
 use Rattle.value_model.specs.Places.{at, then_at, child, child_at, ascends_at}
 use Rattle.value_model.specs.Plain.{Plain, Entries, Table, prim, node, entries, list_of}
 use Rattle.value_model.proofs.Steps.{list_of_entries}
-use Rattle.patch_meaning.specs.Applying.{unless, edited, as_node, with_child, as_child, is_reserved_step, into_child, patched}
+use Rattle.patch_meaning.specs.Applying.{unless, as_node, with_child, as_child, is_reserved_step, into_child, patched}
 use Rattle.guards_views_spec.specs.Views.{Reach, above, inside, aside, reach}
-use Rattle.view_laws.specs.InPlace.{in_place, if_some, changes_entry}
+use Rattle.view_laws.specs.InPlace.{in_place, if_some}
 use Rattle.view_laws.specs.Standing.{entry_in, entry_at}
 use Rattle.view_laws.proofs.EditLaws.{passed, ok_is, same_key, other_key, Stays, edited_stays}
 use Rattle.view_laws.proofs.ChildLaws.{Child, child_set, child_stays}

@@ -1,8 +1,8 @@
 -- Patches in place, one after another: every entry that they don't touch stays.
-use Rattle.std.specs.Prelude.{◌≡◌, ◌≢◌, ℕ, ◌+◌, Bool, true, false, ◌&&◌, ◌||◌, List, [], ◌∷◌, Option, Some, None, Result, Ok, Err, IsTrue, refl}
-use Rattle.std.proofs.Common.{ap, sym, subst, ◌∙◌, cond, Less, Equal, Greater}
+use Rattle.std.specs.Prelude.{◌≡◌, ◌≢◌, ℕ, ◌+◌, Bool, true, false, ◌||◌, List, [], ◌∷◌, Some, None, Result, Ok, Err, IsTrue, refl}
+use Rattle.std.proofs.Common.{ap, sym, subst, ◌∙◌, Less, Equal, Greater}
 use Rattle.std.specs.declared.cmp.Ordering.{Ordering}
-use Rattle.std.specs.Ordering.{eq_by_cmp, is_eq}
+use Rattle.std.specs.Ordering.{eq_by_cmp}
 use Rattle.std.proofs.lemmas.Bool.{or_from}
 use Rattle.value_model.specs.declared.key.Key.{Key}
 use Rattle.value_model.specs.declared.op.Op.{Op}
@@ -14,7 +14,7 @@ use Rattle.value_model.specs.Plain.{Plain}
 use Rattle.value_model.specs.Search.{left_true, right_true}
 use Rattle.view_laws.proofs.EditLaws.{other_key}
 use Rattle.values.specs.declared.patch.Patch.{Patch}
-use Rattle.patch_meaning.specs.Applying.{Fault, fault_at, patched, applied, applied_at, applied_from, is_root, has_root_replace, is_root_replace}
+use Rattle.patch_meaning.specs.Applying.{fault_at, patched, applied, applied_from, is_root, has_root_replace, is_root_replace}
 use Rattle.guards_views_spec.specs.Views.{Reach, above, inside, aside, reach, with_key, with_reach, touched_from, touched}
 use Rattle.view_laws.specs.InPlace.{in_place, if_ok, are_in_place}
 use Rattle.view_laws.specs.Standing.{entry_at}

@@ -1,5 +1,5 @@
 -- The law of views: the weights brought up to date have at each step what the weights from scratch have, and both ascend.
-use Rattle.std.specs.Prelude.{◌≡◌, ℕ, ◌≤◌, ◌^◌, pos, negsuc, Bool, true, false, ◌&&◌, List, [], ◌∷◌, Option, Some, None, IsTrue, option_map, refl}
+use Rattle.std.specs.Prelude.{◌≡◌, ℕ, ◌≤◌, ◌^◌, pos, negsuc, Bool, true, false, List, [], ◌∷◌, Option, Some, None, IsTrue, option_map, refl}
 use Rattle.std.proofs.Common.{zero, suc, ap, sym, subst, ◌∙◌, arith, cond}
 use Rattle.std.specs.Ordering.{eq_by_cmp}
 use Rattle.std.specs.FinMap.Entries.{find, is_sorted, same_entries}
@@ -25,7 +25,7 @@ use Rattle.view_laws.specs.Step.{Step}
 use Rattle.view_laws.proofs.EditLaws.{element_at}
 use Rattle.view_laws.proofs.KeptLaws.{AscendsAt}
 use Rattle.view_laws.proofs.ListLaws.{Left, left, applied_leads}
-use Rattle.view_laws.proofs.WeightLaws.{found, has_key, updated_sorted, updated_right}
+use Rattle.view_laws.proofs.WeightLaws.{found, updated_sorted, updated_right}
 
 -- ---- what holds of each entry's value holds of every child
 abbrev AllIn : (Plain → Type 0) → Entries → Type 0

@@ -1,5 +1,5 @@
 -- The weights of a container as a finite map: what stands at a step, and what bringing them up to date leaves there.
-use Rattle.std.specs.Prelude.{◌≡◌, ◌≢◌, ℕ, ◌+◌, pos, negsuc, Bool, true, false, List, [], ◌∷◌, map, not, ◌||◌, Option, Some, None, IsTrue, slice_get, option_map, refl}
+use Rattle.std.specs.Prelude.{◌≡◌, ◌≢◌, ℕ, ◌+◌, pos, negsuc, Bool, true, false, List, [], ◌∷◌, map, not, ◌||◌, Option, Some, None, IsTrue, option_map, refl}
 use Rattle.std.proofs.Common.{zero, suc, ap, sym, subst, ◌∙◌, arith, cond, Equal}
 use Rattle.std.specs.Ordering.{eq_by_cmp}
 use Rattle.std.specs.FinMap.Entries.{find, put, where_key, is_sorted, find-put, find-where_key}
@@ -15,7 +15,7 @@ use Rattle.guards_views_spec.specs.declared.Weigh.{Weigh}
 use Rattle.guards_views_spec.specs.Shapes.{step_at}
 use Rattle.guards_views_spec.specs.Views.{Weights, weighs, weights_in, weights_of, with_entry, updated}
 use Rattle.derived_views.proofs.Scratch.{put_sorted, without_sorted}
-use Rattle.view_laws.specs.Standing.{entry_in, entry_at}
+use Rattle.view_laws.specs.Standing.{entry_at}
 use Rattle.view_laws.proofs.EditLaws.{element_at, same_key, other_key}
 
 -- ---- what an entry adds, under its step

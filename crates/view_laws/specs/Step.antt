@@ -1,5 +1,5 @@
 -- What the law of views speaks of.
-use Rattle.std.specs.Prelude.{◌≡◌, List, Option, Some, Ok, IsTrue}
+use Rattle.std.specs.Prelude.{◌≡◌, List, Some, Ok, IsTrue}
 use Rattle.value_model.specs.declared.key.Key.{Key}
 use Rattle.value_model.specs.Plain.{Plain}
 use Rattle.value_model.specs.Well.{well}
