@@ -11,9 +11,9 @@ mod views;
 
 use anyhow::Context;
 use guards_views::{Guard, Rules, RulesFault, Shape, Verdict, broken, meets};
+use plain_apply::apply_plain;
 use std::alloc::Global;
 use std::io::{BufRead, BufReader};
-use plain_apply::apply_plain;
 use value_json::{read_patches, read_path, read_value, write_value};
 use values::{Path, Val, ValNode};
 

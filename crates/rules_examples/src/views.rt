@@ -29,9 +29,7 @@ pub fn view_words(
     let weigh = copy_weigh(alloc, &rule.weigh)?;
     let by = |v: &Val|
         requires { value_limit v.now ≡ None }
-    {
-        weighs(&rule.weigh, v)
-    };
+    { weighs(&rule.weigh, v) };
     let view = View::new(alloc, path, weigh, by, container(old, &rule.path)?)?;
     follow(alloc, view, patches, new)
 }

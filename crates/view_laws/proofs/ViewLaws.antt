@@ -109,7 +109,7 @@ view_kept path w patches old new keys s =
     let before : AscendsAt (at path old) = well_at path old s.ascends in
     same_weights _ _ (updated_sorted w (λ k. entry_at k (at path new)) keys _ (weights_sorted w (at path old) before)) (weights_sorted w (at path new) (l.ascends before))
     (λ k. updated_right w (λ j. entry_at j (at path new)) k keys (weights_of w (at path old)) (λ n. found w k (at path old) ∙ ap (option_map (weighs w)) (sym (l.others k n)))
-      ∙ sym (found w k (at path new)))
+    ∙ sym (found w k (at path new)))
 
 -- ---- sums within the limits
 abbrev IsAccepted : Plain → Type 0
