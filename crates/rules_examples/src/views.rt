@@ -1,5 +1,6 @@
 //! Views of rules, brought up to date by patches.
-ghost use Rattle.std.specs.Prelude.{◌≡◌, ◌+◌, ◌≤◌, ◌^◌, map, min, option_map, IfOk, IsTrue, OnTrue, None};
+ghost use Rattle.std.specs.Prelude.{◌≡◌, ◌+◌, ◌≤◌, ◌^◌, map, min, option_map, IfOk, IsTrue, None};
+ghost use Rattle.std.specs.Bool.{OnTrue};
 ghost use Rattle.std.specs.FinMap.Entries.{is_sorted};
 ghost use Rattle.value_model.specs.Limits.{value_limit};
 ghost use Rattle.value_model.specs.Order.{key_cmp};
