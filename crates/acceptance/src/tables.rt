@@ -90,8 +90,8 @@ pub const ROWS: [(&str, &str); 28] = [
     ),
 ];
 
-/// Lines that have the form of a command that is not built yet.
-pub const NOT_YET: [&str; 16] = [
+/// Lines that have the form of a command that the host does not run yet, whatever their values are.
+pub const NOT_YET: [&str; 22] = [
     r#"{"do":"dispatch","reducer":"f"}"#,
     r#"{"do":"dispatch","reducer":"f","action":{"$set":1}}"#,
     r#"{"do":"undo"}"#,
@@ -108,10 +108,16 @@ pub const NOT_YET: [&str; 16] = [
     r#"{"do":"apply","patches":[{"op":"replace","path":["n"]}]}"#,
     r#"{"do":"apply","patches":[{"op":"remove","path":["n"],"value":1}]}"#,
     r#"{"do":"fly","do":"renew"}"#,
+    r#"{"do":"begin","grant":"g"}"#,
+    r#"{"do":"view","name":"done"}"#,
+    r#"{"do":"pointer","patches":[{"op":"add","path":"/a~1b/0","value":0}]}"#,
+    r#"{"do":"pointer","patches":[{"op":"add","path":"","value":1.5}]}"#,
+    r#"{"do":"dispatch","reducer":"f","action":1.5}"#,
+    r#"{"do":"apply","patches":[{"op":"add","path":[1.5],"value":{"$set":1}}]}"#,
 ];
 
 /// JSON texts of no form.
-pub const NO_COMMAND: [&str; 24] = [
+pub const NO_COMMAND: [&str; 29] = [
     "null",
     "{}",
     r#"{"do":null}"#,
@@ -136,6 +142,11 @@ pub const NO_COMMAND: [&str; 24] = [
     r#"{"do":"apply","patches":[{"op":"add","path":"n","value":1}]}"#,
     r#"{"do":"apply","patches":[{"op":"add","path":["n"],"value":1,"at":0}]}"#,
     r#"{"do":"apply","patches":[],"path":[]}"#,
+    r#"{"do":"begin","grant":1}"#,
+    r#"{"do":"view"}"#,
+    r#"{"do":"pointer","patches":[{"op":"test","path":"/a","value":1}]}"#,
+    r#"{"do":"pointer","patches":[{"op":"add","path":"/a~2","value":1}]}"#,
+    r#"{"do":"pointer","patches":[{"op":"replace","path":"/a"}]}"#,
 ];
 
 /// The lines of the run, each with its LF.

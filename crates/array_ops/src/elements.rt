@@ -1,4 +1,5 @@
 //! The elements of a list.
+ghost use Rattle.node_store.specs.Paged.{states};
 ghost use Rattle.std.specs.Prelude.{◌≡◌, ◌≤◌, IfOk, length, slice_get, slice_range};
 ghost use Rattle.run_heap.specs.Operations.{or_undefined, table_of};
 ghost use Rattle.run_heap.specs.Sound.{AllStored, Fits, IsContainer};
@@ -16,10 +17,10 @@ pub(crate) fn element(
     of: &Rv,
     i: usize,
 ) -> Result<Rv, AllocError>
-    requires stands { Stands store.now scope.old }
-    requires container { IsContainer (heap store.now scope.old) of.now }
-    ensures value { IfOk result (λ v. v ≡ or_undefined (slice_get (elements_of (heap store.now scope.old) of.now) i)) }
-    ensures fits { IfOk result (λ v. Fits (heap store.now scope.old) v) }
+    requires stands { Stands (states store.now) scope.old }
+    requires container { IsContainer (heap (states store.now) scope.old) of.now }
+    ensures value { IfOk result (λ v. v ≡ or_undefined (slice_get (elements_of (heap (states store.now) scope.old) of.now) i)) }
+    ensures fits { IfOk result (λ v. Fits (heap (states store.now) scope.old) v) }
     ensures same { scope.new ≡ scope.old }
 {
     if i < scope.count(store, of) {
@@ -38,11 +39,11 @@ pub(crate) fn elements(
     from: usize,
     to: usize,
 ) -> Result<Vec<Rv>, AllocError>
-    requires stands { Stands store.now scope.old }
-    requires container { IsContainer (heap store.now scope.old) of.now }
-    requires in_range { to ≤ length (table_of (heap store.now scope.old) of.now) }
-    ensures values { IfOk result (λ v. v.items ≡ slice_range (elements_of (heap store.now scope.old) of.now) from to) }
-    ensures stored { IfOk result (λ v. AllStored (heap store.now scope.old) v.items) }
+    requires stands { Stands (states store.now) scope.old }
+    requires container { IsContainer (heap (states store.now) scope.old) of.now }
+    requires in_range { to ≤ length (table_of (heap (states store.now) scope.old) of.now) }
+    ensures values { IfOk result (λ v. v.items ≡ slice_range (elements_of (heap (states store.now) scope.old) of.now) from to) }
+    ensures stored { IfOk result (λ v. AllStored (heap (states store.now) scope.old) v.items) }
     ensures same { scope.new ≡ scope.old }
 {
     let mut out = Vec::new(alloc);

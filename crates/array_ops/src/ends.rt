@@ -1,4 +1,5 @@
 //! Calls at the ends of a list.
+ghost use Rattle.node_store.specs.Paged.{states};
 ghost use Rattle.std.specs.Prelude.{◌≡◌, ◌≤◌, ◌+◌, IfOk};
 ghost use Rattle.run_heap.specs.Answers.{Does};
 ghost use Rattle.run_heap.specs.Sound.{AllOwned, Fits, Grows, Owned};
@@ -21,12 +22,12 @@ pub fn push(
     of: &Rv,
     items: &[Rv],
 ) -> Result<u64, DraftFault>
-    requires stands { Stands store.now scope.old }
-    requires owned { Owned (heap store.now scope.old) of.now }
-    requires items { AllOwned (heap store.now scope.old) items.now }
-    ensures done { Does result (heap store.now scope.old) (heap store.now scope.new) (spec.push items.now (heap store.now scope.old) of.now) }
-    ensures stands { Stands store.now scope.new }
-    ensures grows { Grows (heap store.now scope.old) (heap store.now scope.new) }
+    requires stands { Stands (states store.now) scope.old }
+    requires owned { Owned (heap (states store.now) scope.old) of.now }
+    requires items { AllOwned (heap (states store.now) scope.old) items.now }
+    ensures done { Does result (heap (states store.now) scope.old) (heap (states store.now) scope.new) (spec.push items.now (heap (states store.now) scope.old) of.now) }
+    ensures stands { Stands (states store.now) scope.new }
+    ensures grows { Grows (heap (states store.now) scope.old) (heap (states store.now) scope.new) }
     ensures tables { slots scope.new ≤ slots scope.old + 1 }
 {
     let count = writable(scope, store, of, items)?;
@@ -47,12 +48,12 @@ pub fn unshift(
     of: &Rv,
     items: &[Rv],
 ) -> Result<u64, DraftFault>
-    requires stands { Stands store.now scope.old }
-    requires owned { Owned (heap store.now scope.old) of.now }
-    requires items { AllOwned (heap store.now scope.old) items.now }
-    ensures done { Does result (heap store.now scope.old) (heap store.now scope.new) (spec.unshift items.now (heap store.now scope.old) of.now) }
-    ensures stands { Stands store.now scope.new }
-    ensures grows { Grows (heap store.now scope.old) (heap store.now scope.new) }
+    requires stands { Stands (states store.now) scope.old }
+    requires owned { Owned (heap (states store.now) scope.old) of.now }
+    requires items { AllOwned (heap (states store.now) scope.old) items.now }
+    ensures done { Does result (heap (states store.now) scope.old) (heap (states store.now) scope.new) (spec.unshift items.now (heap (states store.now) scope.old) of.now) }
+    ensures stands { Stands (states store.now) scope.new }
+    ensures grows { Grows (heap (states store.now) scope.old) (heap (states store.now) scope.new) }
     ensures tables { slots scope.new ≤ slots scope.old + 1 }
 {
     let count = writable(scope, store, of, items)?;
@@ -66,12 +67,12 @@ pub fn unshift(
 /// Removes the last element, and answers it, or `Undefined` where there is none. `TypeMismatch` for another operand, `Frozen`.
 /// `Revoked` where an operand is a reference of another scope. `Memory` where memory runs out. After each of them all is as before.
 pub fn pop(alloc: Global, scope: &mut Scope, store: &Store, of: &Rv) -> Result<Rv, DraftFault>
-    requires stands { Stands store.now scope.old }
-    requires owned { Owned (heap store.now scope.old) of.now }
-    ensures done { Does result (heap store.now scope.old) (heap store.now scope.new) (spec.pop (heap store.now scope.old) of.now) }
-    ensures stands { Stands store.now scope.new }
-    ensures grows { Grows (heap store.now scope.old) (heap store.now scope.new) }
-    ensures fits { IfOk result (λ v. Fits (heap store.now scope.new) v) }
+    requires stands { Stands (states store.now) scope.old }
+    requires owned { Owned (heap (states store.now) scope.old) of.now }
+    ensures done { Does result (heap (states store.now) scope.old) (heap (states store.now) scope.new) (spec.pop (heap (states store.now) scope.old) of.now) }
+    ensures stands { Stands (states store.now) scope.new }
+    ensures grows { Grows (heap (states store.now) scope.old) (heap (states store.now) scope.new) }
+    ensures fits { IfOk result (λ v. Fits (heap (states store.now) scope.new) v) }
     ensures tables { slots scope.new ≤ slots scope.old + 1 }
 {
     let count = writable(scope, store, of, &[])?;
@@ -84,12 +85,12 @@ pub fn pop(alloc: Global, scope: &mut Scope, store: &Store, of: &Rv) -> Result<R
 /// Removes the first element, and answers it, or `Undefined` where there is none. `TypeMismatch` for another operand, `Frozen`.
 /// `Revoked` where an operand is a reference of another scope. `Memory` where memory runs out. After each of them all is as before.
 pub fn shift(alloc: Global, scope: &mut Scope, store: &Store, of: &Rv) -> Result<Rv, DraftFault>
-    requires stands { Stands store.now scope.old }
-    requires owned { Owned (heap store.now scope.old) of.now }
-    ensures done { Does result (heap store.now scope.old) (heap store.now scope.new) (spec.shift (heap store.now scope.old) of.now) }
-    ensures stands { Stands store.now scope.new }
-    ensures grows { Grows (heap store.now scope.old) (heap store.now scope.new) }
-    ensures fits { IfOk result (λ v. Fits (heap store.now scope.new) v) }
+    requires stands { Stands (states store.now) scope.old }
+    requires owned { Owned (heap (states store.now) scope.old) of.now }
+    ensures done { Does result (heap (states store.now) scope.old) (heap (states store.now) scope.new) (spec.shift (heap (states store.now) scope.old) of.now) }
+    ensures stands { Stands (states store.now) scope.new }
+    ensures grows { Grows (heap (states store.now) scope.old) (heap (states store.now) scope.new) }
+    ensures fits { IfOk result (λ v. Fits (heap (states store.now) scope.new) v) }
     ensures tables { slots scope.new ≤ slots scope.old + 1 }
 {
     let count = writable(scope, store, of, &[])?;

@@ -1,4 +1,5 @@
 //! What is asked before a list's elements are looked at.
+ghost use Rattle.node_store.specs.Paged.{states};
 ghost use Rattle.std.specs.Prelude.{◌≡◌, ◌<◌, ◌^◌, ◌↔◌, IsTrue, IfOk, MatchResult, List, Some};
 ghost use Rattle.numbered.specs.Tree.{Tree};
 ghost use Rattle.value_model.specs.declared.kind.Kind.TheVariants as kind;
@@ -17,9 +18,9 @@ pub(crate) fn readable(
     of: &Rv,
     others: &[Rv],
 ) -> Result<usize, DraftFault>
-    requires stands { Stands store.now scope.now }
-    requires owned { Owned (heap store.now scope.now) of.now }
-    ensures answer { MatchResult result (λ n. IsReadable (heap store.now scope.now) of.now others.now n) (λ e. may_read (heap store.now scope.now) of.now others.now ≡ Err e) }
+    requires stands { Stands (states store.now) scope.now }
+    requires owned { Owned (heap (states store.now) scope.now) of.now }
+    ensures answer { MatchResult result (λ n. IsReadable (heap (states store.now) scope.now) of.now others.now n) (λ e. may_read (heap (states store.now) scope.now) of.now others.now ≡ Err e) }
     ensures small { IfOk result (λ n. n < 2 ^ 63) }
 {
     listed(scope, store, of, others)?;
@@ -33,9 +34,9 @@ pub(crate) fn writable(
     of: &Rv,
     others: &[Rv],
 ) -> Result<usize, DraftFault>
-    requires stands { Stands store.now scope.now }
-    requires owned { Owned (heap store.now scope.now) of.now }
-    ensures answer { MatchResult result (λ n. IsWritable (heap store.now scope.now) of.now others.now n) (λ e. may_write (heap store.now scope.now) of.now others.now ≡ Err e) }
+    requires stands { Stands (states store.now) scope.now }
+    requires owned { Owned (heap (states store.now) scope.now) of.now }
+    ensures answer { MatchResult result (λ n. IsWritable (heap (states store.now) scope.now) of.now others.now n) (λ e. may_write (heap (states store.now) scope.now) of.now others.now ≡ Err e) }
     ensures small { IfOk result (λ n. n < 2 ^ 63) }
 {
     listed(scope, store, of, others)?;
@@ -47,9 +48,9 @@ pub(crate) fn writable(
 
 /// Whether the argument is a list, and no argument one of another scope.
 fn listed(scope: &Scope, store: &Store, of: &Rv, others: &[Rv]) -> Result<(), DraftFault>
-    requires stands { Stands store.now scope.now }
-    requires owned { Owned (heap store.now scope.now) of.now }
-    ensures { MatchResult result (λ _. IsListed (heap store.now scope.now) of.now others.now) (λ e. IsUnlisted (heap store.now scope.now) of.now others.now e) }
+    requires stands { Stands (states store.now) scope.now }
+    requires owned { Owned (heap (states store.now) scope.now) of.now }
+    ensures { MatchResult result (λ _. IsListed (heap (states store.now) scope.now) of.now others.now) (λ e. IsUnlisted (heap (states store.now) scope.now) of.now others.now e) }
 {
     if !scope.owns(of) || any_foreign(scope, others) {
         return Err(DraftFault::Revoked);

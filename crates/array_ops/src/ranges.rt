@@ -1,4 +1,5 @@
 //! Calls on a range of a list.
+ghost use Rattle.node_store.specs.Paged.{states};
 ghost use Rattle.std.specs.Prelude.{◌≡◌, ◌≤◌, ◌+◌, IfOk};
 ghost use Rattle.run_heap.specs.Answers.{Does};
 ghost use Rattle.run_heap.specs.Sound.{AllOwned, Fits, Grows, Owned};
@@ -25,13 +26,13 @@ pub fn splice(
     count: Option<i64>,
     items: &[Rv],
 ) -> Result<Rv, DraftFault>
-    requires stands { Stands store.now scope.old }
-    requires owned { Owned (heap store.now scope.old) of.now }
-    requires items { AllOwned (heap store.now scope.old) items.now }
-    ensures done { Does result (heap store.now scope.old) (heap store.now scope.new) (spec.splice start count items.now (heap store.now scope.old) of.now) }
-    ensures stands { Stands store.now scope.new }
-    ensures grows { Grows (heap store.now scope.old) (heap store.now scope.new) }
-    ensures fits { IfOk result (λ v. Fits (heap store.now scope.new) v) }
+    requires stands { Stands (states store.now) scope.old }
+    requires owned { Owned (heap (states store.now) scope.old) of.now }
+    requires items { AllOwned (heap (states store.now) scope.old) items.now }
+    ensures done { Does result (heap (states store.now) scope.old) (heap (states store.now) scope.new) (spec.splice start count items.now (heap (states store.now) scope.old) of.now) }
+    ensures stands { Stands (states store.now) scope.new }
+    ensures grows { Grows (heap (states store.now) scope.old) (heap (states store.now) scope.new) }
+    ensures fits { IfOk result (λ v. Fits (heap (states store.now) scope.new) v) }
     ensures tables { slots scope.new ≤ slots scope.old + 2 }
 {
     let len = writable(scope, store, of, items)?;
@@ -55,12 +56,12 @@ pub fn slice(
     start: i64,
     end: Option<i64>,
 ) -> Result<Rv, DraftFault>
-    requires stands { Stands store.now scope.old }
-    requires owned { Owned (heap store.now scope.old) of.now }
-    ensures done { Does result (heap store.now scope.old) (heap store.now scope.new) (spec.slice start end (heap store.now scope.old) of.now) }
-    ensures stands { Stands store.now scope.new }
-    ensures grows { Grows (heap store.now scope.old) (heap store.now scope.new) }
-    ensures fits { IfOk result (λ v. Fits (heap store.now scope.new) v) }
+    requires stands { Stands (states store.now) scope.old }
+    requires owned { Owned (heap (states store.now) scope.old) of.now }
+    ensures done { Does result (heap (states store.now) scope.old) (heap (states store.now) scope.new) (spec.slice start end (heap (states store.now) scope.old) of.now) }
+    ensures stands { Stands (states store.now) scope.new }
+    ensures grows { Grows (heap (states store.now) scope.old) (heap (states store.now) scope.new) }
+    ensures fits { IfOk result (λ v. Fits (heap (states store.now) scope.new) v) }
     ensures tables { slots scope.new ≤ slots scope.old + 1 }
 {
     let len = readable(scope, store, of, &[])?;
@@ -73,11 +74,11 @@ pub fn slice(
 /// Turns the order of a list's elements round. `TypeMismatch` for another operand, `Frozen`.
 /// `Revoked` where an operand is a reference of another scope. `Memory` where memory runs out. After each of them all is as before.
 pub fn reverse(alloc: Global, scope: &mut Scope, store: &Store, of: &Rv) -> Result<(), DraftFault>
-    requires stands { Stands store.now scope.old }
-    requires owned { Owned (heap store.now scope.old) of.now }
-    ensures done { Does result (heap store.now scope.old) (heap store.now scope.new) (spec.reverse (heap store.now scope.old) of.now) }
-    ensures stands { Stands store.now scope.new }
-    ensures grows { Grows (heap store.now scope.old) (heap store.now scope.new) }
+    requires stands { Stands (states store.now) scope.old }
+    requires owned { Owned (heap (states store.now) scope.old) of.now }
+    ensures done { Does result (heap (states store.now) scope.old) (heap (states store.now) scope.new) (spec.reverse (heap (states store.now) scope.old) of.now) }
+    ensures stands { Stands (states store.now) scope.new }
+    ensures grows { Grows (heap (states store.now) scope.old) (heap (states store.now) scope.new) }
     ensures tables { slots scope.new ≤ slots scope.old + 1 }
 {
     let len = writable(scope, store, of, &[])?;
@@ -97,11 +98,11 @@ pub fn set_length(
     of: &Rv,
     n: i64,
 ) -> Result<(), DraftFault>
-    requires stands { Stands store.now scope.old }
-    requires owned { Owned (heap store.now scope.old) of.now }
-    ensures done { Does result (heap store.now scope.old) (heap store.now scope.new) (spec.set_length n (heap store.now scope.old) of.now) }
-    ensures stands { Stands store.now scope.new }
-    ensures grows { Grows (heap store.now scope.old) (heap store.now scope.new) }
+    requires stands { Stands (states store.now) scope.old }
+    requires owned { Owned (heap (states store.now) scope.old) of.now }
+    ensures done { Does result (heap (states store.now) scope.old) (heap (states store.now) scope.new) (spec.set_length n (heap (states store.now) scope.old) of.now) }
+    ensures stands { Stands (states store.now) scope.new }
+    ensures grows { Grows (heap (states store.now) scope.old) (heap (states store.now) scope.new) }
     ensures tables { slots scope.new ≤ slots scope.old + 1 }
 {
     let len = writable(scope, store, of, &[])?;

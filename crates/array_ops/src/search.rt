@@ -1,4 +1,5 @@
 //! Calls that look for a value in a list.
+ghost use Rattle.node_store.specs.Paged.{states};
 ghost use Rattle.std.specs.Prelude.{◌≡◌, ◌<◌, ◌^◌, [], ◌∷◌, length, IfSome};
 ghost use Rattle.std.specs.List.{position};
 ghost use Rattle.run_heap.specs.Operations.{table_of};
@@ -22,9 +23,9 @@ pub fn index_of(
     of: &Rv,
     item: &Rv,
 ) -> Result<i64, DraftFault>
-    requires stands { Stands store.now scope.old }
-    requires owned { Owned (heap store.now scope.old) of.now }
-    ensures answer { result ≡ spec.index_of item.now (heap store.now scope.old) of.now }
+    requires stands { Stands (states store.now) scope.old }
+    requires owned { Owned (heap (states store.now) scope.old) of.now }
+    ensures answer { result ≡ spec.index_of item.now (heap (states store.now) scope.old) of.now }
     ensures same { scope.new ≡ scope.old }
 {
     let len = readable(scope, store, of, slice::from_ref(item))?;
@@ -43,9 +44,9 @@ pub fn includes(
     of: &Rv,
     item: &Rv,
 ) -> Result<bool, DraftFault>
-    requires stands { Stands store.now scope.old }
-    requires owned { Owned (heap store.now scope.old) of.now }
-    ensures answer { result ≡ spec.includes item.now (heap store.now scope.old) of.now }
+    requires stands { Stands (states store.now) scope.old }
+    requires owned { Owned (heap (states store.now) scope.old) of.now }
+    ensures answer { result ≡ spec.includes item.now (heap (states store.now) scope.old) of.now }
     ensures same { scope.new ≡ scope.old }
 {
     let len = readable(scope, store, of, slice::from_ref(item))?;
@@ -54,10 +55,10 @@ pub fn includes(
 
 /// The index of the first of a list's elements that is the same as the item.
 fn find(scope: &Scope, store: &Store, of: &Rv, item: &Rv, len: usize) -> Option<usize>
-    requires stands { Stands store.now scope.now }
-    requires container { IsContainer (heap store.now scope.now) of.now }
-    requires long { len ≡ length (table_of (heap store.now scope.now) of.now) }
-    ensures index { result ≡ position (λ x. same x item.now) (elements_of (heap store.now scope.now) of.now) }
+    requires stands { Stands (states store.now) scope.now }
+    requires container { IsContainer (heap (states store.now) scope.now) of.now }
+    requires long { len ≡ length (table_of (heap (states store.now) scope.now) of.now) }
+    ensures index { result ≡ position (λ x. same x item.now) (elements_of (heap (states store.now) scope.now) of.now) }
     ensures below { IfSome result (λ i. i < len) }
 {
     for i in 0..len {

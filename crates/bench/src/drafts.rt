@@ -1,4 +1,5 @@
 //! How fast a scope reads and writes drafts of a list of 100,000 objects.
+ghost use Rattle.node_store.specs.Paged.{states};
 ghost use Rattle.std.specs.Prelude.{◌≡◌, IfOk};
 ghost use Rattle.run_heap.specs.Sound.{Owned};
 ghost use Rattle.draft_core.specs.Seen.{heap, Stands};
@@ -47,9 +48,9 @@ fn object(alloc: Global) -> anyhow::Result<Val> {
 
 /// The draft of the i-th object.
 fn draft(alloc: Global, store: &Store, scope: &mut Scope, i: u32) -> anyhow::Result<Rv>
-    requires { Stands store.now scope.old }
+    requires { Stands (states store.now) scope.old }
     ensures same { scope.new ≡ scope.old }
-    ensures owned { IfOk result (λ v. Owned (heap store.now scope.old) v) }
+    ensures owned { IfOk result (λ v. Owned (heap (states store.now) scope.old) v) }
 {
     let root = scope.root();
     let at = Safe::of(i as i64).context("no index")?;
@@ -59,8 +60,8 @@ fn draft(alloc: Global, store: &Store, scope: &mut Scope, i: u32) -> anyhow::Res
 
 /// Writes a draft's entry.
 fn write(alloc: Global, store: &Store, scope: &mut Scope, key: &Key, i: u32) -> anyhow::Result<()>
-    requires { Stands store.now scope.old }
-    ensures { Stands store.now scope.new }
+    requires { Stands (states store.now) scope.old }
+    ensures { Stands (states store.now) scope.new }
 {
     let draft = draft(alloc, store, scope, i)?;
     let value = Rv::Prim(Key::Bool(true));
@@ -72,7 +73,7 @@ fn write(alloc: Global, store: &Store, scope: &mut Scope, key: &Key, i: u32) -> 
 
 /// Reads a draft's entry.
 fn read(alloc: Global, store: &Store, scope: &mut Scope, key: &Key, i: u32) -> anyhow::Result<()>
-    requires { Stands store.now scope.old }
+    requires { Stands (states store.now) scope.old }
     ensures { scope.new ≡ scope.old }
 {
     let draft = draft(alloc, store, scope, i)?;
@@ -91,8 +92,8 @@ fn write_all(
     n: u32,
     every: u32,
 ) -> anyhow::Result<u64>
-    requires { Stands store.now scope.old }
-    ensures { Stands store.now scope.new }
+    requires { Stands (states store.now) scope.old }
+    ensures { Stands (states store.now) scope.new }
 {
     let alloc = rt.alloc();
     let key = Key::Text(name(alloc)?);
@@ -111,7 +112,7 @@ fn read_all(
     n: u32,
     every: u32,
 ) -> anyhow::Result<u64>
-    requires { Stands store.now scope.old }
+    requires { Stands (states store.now) scope.old }
 {
     let alloc = rt.alloc();
     let key = Key::Text(name(alloc)?);

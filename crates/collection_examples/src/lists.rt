@@ -1,6 +1,7 @@
 //! The calls on lists.
 #![tactic(auto, using(draft_runs::proofs::Held::all_grow))]
 
+ghost use Rattle.node_store.specs.Paged.{states};
 ghost use Rattle.run_heap.specs.Sound.{AllOwned};
 ghost use Rattle.draft_core.specs.Seen.{heap, Stands};
 
@@ -16,10 +17,10 @@ pub(crate) fn answer(
     word: &str,
     words: &[&str],
 ) -> Result<String, WordFault>
-    requires stands { Stands run.old.store run.old.scope }
-    requires owned { AllOwned (heap run.old.store run.old.scope) run.old.values.items }
-    ensures stands { Stands run.new.store run.new.scope }
-    ensures owned { AllOwned (heap run.new.store run.new.scope) run.new.values.items }
+    requires stands { Stands (states run.old.store) run.old.scope }
+    requires owned { AllOwned (heap (states run.old.store) run.old.scope) run.old.values.items }
+    ensures stands { Stands (states run.new.store) run.new.scope }
+    ensures owned { AllOwned (heap (states run.new.store) run.new.scope) run.new.values.items }
 {
     match word {
         "push" => push(run, alloc, words),
@@ -38,10 +39,10 @@ pub(crate) fn answer(
 
 /// `push LIST ITEMS..`
 fn push(run: &mut Run, alloc: Global, words: &[&str]) -> Result<String, WordFault>
-    requires stands { Stands run.old.store run.old.scope }
-    requires owned { AllOwned (heap run.old.store run.old.scope) run.old.values.items }
-    ensures stands { Stands run.new.store run.new.scope }
-    ensures owned { AllOwned (heap run.new.store run.new.scope) run.new.values.items }
+    requires stands { Stands (states run.old.store) run.old.scope }
+    requires owned { AllOwned (heap (states run.old.store) run.old.scope) run.old.values.items }
+    ensures stands { Stands (states run.new.store) run.new.scope }
+    ensures owned { AllOwned (heap (states run.new.store) run.new.scope) run.new.values.items }
 {
     let of = operand(run, alloc, words, 0)?;
     let items = operands(run, alloc, words, 1)?;
@@ -51,10 +52,10 @@ fn push(run: &mut Run, alloc: Global, words: &[&str]) -> Result<String, WordFaul
 
 /// `unshift LIST ITEMS..`
 fn unshift(run: &mut Run, alloc: Global, words: &[&str]) -> Result<String, WordFault>
-    requires stands { Stands run.old.store run.old.scope }
-    requires owned { AllOwned (heap run.old.store run.old.scope) run.old.values.items }
-    ensures stands { Stands run.new.store run.new.scope }
-    ensures owned { AllOwned (heap run.new.store run.new.scope) run.new.values.items }
+    requires stands { Stands (states run.old.store) run.old.scope }
+    requires owned { AllOwned (heap (states run.old.store) run.old.scope) run.old.values.items }
+    ensures stands { Stands (states run.new.store) run.new.scope }
+    ensures owned { AllOwned (heap (states run.new.store) run.new.scope) run.new.values.items }
 {
     let of = operand(run, alloc, words, 0)?;
     let items = operands(run, alloc, words, 1)?;
@@ -64,10 +65,10 @@ fn unshift(run: &mut Run, alloc: Global, words: &[&str]) -> Result<String, WordF
 
 /// `pop LIST`
 fn pop(run: &mut Run, alloc: Global, words: &[&str]) -> Result<String, WordFault>
-    requires stands { Stands run.old.store run.old.scope }
-    requires owned { AllOwned (heap run.old.store run.old.scope) run.old.values.items }
-    ensures stands { Stands run.new.store run.new.scope }
-    ensures owned { AllOwned (heap run.new.store run.new.scope) run.new.values.items }
+    requires stands { Stands (states run.old.store) run.old.scope }
+    requires owned { AllOwned (heap (states run.old.store) run.old.scope) run.old.values.items }
+    ensures stands { Stands (states run.new.store) run.new.scope }
+    ensures owned { AllOwned (heap (states run.new.store) run.new.scope) run.new.values.items }
 {
     let of = operand(run, alloc, words, 0)?;
     let answer = array_ops::pop(alloc, &mut run.scope, &run.store, &of);
@@ -76,10 +77,10 @@ fn pop(run: &mut Run, alloc: Global, words: &[&str]) -> Result<String, WordFault
 
 /// `shift LIST`
 fn shift(run: &mut Run, alloc: Global, words: &[&str]) -> Result<String, WordFault>
-    requires stands { Stands run.old.store run.old.scope }
-    requires owned { AllOwned (heap run.old.store run.old.scope) run.old.values.items }
-    ensures stands { Stands run.new.store run.new.scope }
-    ensures owned { AllOwned (heap run.new.store run.new.scope) run.new.values.items }
+    requires stands { Stands (states run.old.store) run.old.scope }
+    requires owned { AllOwned (heap (states run.old.store) run.old.scope) run.old.values.items }
+    ensures stands { Stands (states run.new.store) run.new.scope }
+    ensures owned { AllOwned (heap (states run.new.store) run.new.scope) run.new.values.items }
 {
     let of = operand(run, alloc, words, 0)?;
     let answer = array_ops::shift(alloc, &mut run.scope, &run.store, &of);
@@ -88,10 +89,10 @@ fn shift(run: &mut Run, alloc: Global, words: &[&str]) -> Result<String, WordFau
 
 /// `splice LIST START COUNT ITEMS..`, where `-` is no count
 fn splice(run: &mut Run, alloc: Global, words: &[&str]) -> Result<String, WordFault>
-    requires stands { Stands run.old.store run.old.scope }
-    requires owned { AllOwned (heap run.old.store run.old.scope) run.old.values.items }
-    ensures stands { Stands run.new.store run.new.scope }
-    ensures owned { AllOwned (heap run.new.store run.new.scope) run.new.values.items }
+    requires stands { Stands (states run.old.store) run.old.scope }
+    requires owned { AllOwned (heap (states run.old.store) run.old.scope) run.old.values.items }
+    ensures stands { Stands (states run.new.store) run.new.scope }
+    ensures owned { AllOwned (heap (states run.new.store) run.new.scope) run.new.values.items }
 {
     let of = operand(run, alloc, words, 0)?;
     let start = number(words, 1)?;
@@ -103,10 +104,10 @@ fn splice(run: &mut Run, alloc: Global, words: &[&str]) -> Result<String, WordFa
 
 /// `slice LIST START END`, where `-` is no end
 fn slice(run: &mut Run, alloc: Global, words: &[&str]) -> Result<String, WordFault>
-    requires stands { Stands run.old.store run.old.scope }
-    requires owned { AllOwned (heap run.old.store run.old.scope) run.old.values.items }
-    ensures stands { Stands run.new.store run.new.scope }
-    ensures owned { AllOwned (heap run.new.store run.new.scope) run.new.values.items }
+    requires stands { Stands (states run.old.store) run.old.scope }
+    requires owned { AllOwned (heap (states run.old.store) run.old.scope) run.old.values.items }
+    ensures stands { Stands (states run.new.store) run.new.scope }
+    ensures owned { AllOwned (heap (states run.new.store) run.new.scope) run.new.values.items }
 {
     let of = operand(run, alloc, words, 0)?;
     let start = number(words, 1)?;
@@ -117,10 +118,10 @@ fn slice(run: &mut Run, alloc: Global, words: &[&str]) -> Result<String, WordFau
 
 /// `reverse LIST`
 fn reverse(run: &mut Run, alloc: Global, words: &[&str]) -> Result<String, WordFault>
-    requires stands { Stands run.old.store run.old.scope }
-    requires owned { AllOwned (heap run.old.store run.old.scope) run.old.values.items }
-    ensures stands { Stands run.new.store run.new.scope }
-    ensures owned { AllOwned (heap run.new.store run.new.scope) run.new.values.items }
+    requires stands { Stands (states run.old.store) run.old.scope }
+    requires owned { AllOwned (heap (states run.old.store) run.old.scope) run.old.values.items }
+    ensures stands { Stands (states run.new.store) run.new.scope }
+    ensures owned { AllOwned (heap (states run.new.store) run.new.scope) run.new.values.items }
 {
     let of = operand(run, alloc, words, 0)?;
     let answer = array_ops::reverse(alloc, &mut run.scope, &run.store, &of);
@@ -129,10 +130,10 @@ fn reverse(run: &mut Run, alloc: Global, words: &[&str]) -> Result<String, WordF
 
 /// `index_of LIST ITEM`
 fn index_of(run: &mut Run, alloc: Global, words: &[&str]) -> Result<String, WordFault>
-    requires stands { Stands run.old.store run.old.scope }
-    requires owned { AllOwned (heap run.old.store run.old.scope) run.old.values.items }
-    ensures stands { Stands run.new.store run.new.scope }
-    ensures owned { AllOwned (heap run.new.store run.new.scope) run.new.values.items }
+    requires stands { Stands (states run.old.store) run.old.scope }
+    requires owned { AllOwned (heap (states run.old.store) run.old.scope) run.old.values.items }
+    ensures stands { Stands (states run.new.store) run.new.scope }
+    ensures owned { AllOwned (heap (states run.new.store) run.new.scope) run.new.values.items }
 {
     let of = operand(run, alloc, words, 0)?;
     let item = operand(run, alloc, words, 1)?;
@@ -142,10 +143,10 @@ fn index_of(run: &mut Run, alloc: Global, words: &[&str]) -> Result<String, Word
 
 /// `includes LIST ITEM`
 fn includes(run: &mut Run, alloc: Global, words: &[&str]) -> Result<String, WordFault>
-    requires stands { Stands run.old.store run.old.scope }
-    requires owned { AllOwned (heap run.old.store run.old.scope) run.old.values.items }
-    ensures stands { Stands run.new.store run.new.scope }
-    ensures owned { AllOwned (heap run.new.store run.new.scope) run.new.values.items }
+    requires stands { Stands (states run.old.store) run.old.scope }
+    requires owned { AllOwned (heap (states run.old.store) run.old.scope) run.old.values.items }
+    ensures stands { Stands (states run.new.store) run.new.scope }
+    ensures owned { AllOwned (heap (states run.new.store) run.new.scope) run.new.values.items }
 {
     let of = operand(run, alloc, words, 0)?;
     let item = operand(run, alloc, words, 1)?;
@@ -155,10 +156,10 @@ fn includes(run: &mut Run, alloc: Global, words: &[&str]) -> Result<String, Word
 
 /// `set_length LIST LENGTH`
 fn set_length(run: &mut Run, alloc: Global, words: &[&str]) -> Result<String, WordFault>
-    requires stands { Stands run.old.store run.old.scope }
-    requires owned { AllOwned (heap run.old.store run.old.scope) run.old.values.items }
-    ensures stands { Stands run.new.store run.new.scope }
-    ensures owned { AllOwned (heap run.new.store run.new.scope) run.new.values.items }
+    requires stands { Stands (states run.old.store) run.old.scope }
+    requires owned { AllOwned (heap (states run.old.store) run.old.scope) run.old.values.items }
+    ensures stands { Stands (states run.new.store) run.new.scope }
+    ensures owned { AllOwned (heap (states run.new.store) run.new.scope) run.new.values.items }
 {
     let of = operand(run, alloc, words, 0)?;
     let n = number(words, 1)?;

@@ -3,6 +3,7 @@
 //! refusal's name. A line that begins with `#` is a remark.
 #![tactic(auto)]
 
+ghost use Rattle.node_store.specs.Paged.{states};
 ghost use Rattle.run_heap.specs.Sound.{AllOwned};
 ghost use Rattle.draft_core.specs.Seen.{heap, Stands};
 
@@ -18,10 +19,10 @@ use std::alloc::Global;
 
 /// What a line is answered.
 fn answer(run: &mut Run, alloc: Global, line: &str) -> Result<String, WordFault>
-    requires stands { Stands run.old.store run.old.scope }
-    requires owned { AllOwned (heap run.old.store run.old.scope) run.old.values.items }
-    ensures stands { Stands run.new.store run.new.scope }
-    ensures owned { AllOwned (heap run.new.store run.new.scope) run.new.values.items }
+    requires stands { Stands (states run.old.store) run.old.scope }
+    requires owned { AllOwned (heap (states run.old.store) run.old.scope) run.old.values.items }
+    ensures stands { Stands (states run.new.store) run.new.scope }
+    ensures owned { AllOwned (heap (states run.new.store) run.new.scope) run.new.values.items }
 {
     match line.strip_prefix("state ") {
         Some(text) => {
@@ -34,10 +35,10 @@ fn answer(run: &mut Run, alloc: Global, line: &str) -> Result<String, WordFault>
 
 /// What a call is answered.
 fn call(run: &mut Run, alloc: Global, line: &str) -> Result<String, WordFault>
-    requires stands { Stands run.old.store run.old.scope }
-    requires owned { AllOwned (heap run.old.store run.old.scope) run.old.values.items }
-    ensures stands { Stands run.new.store run.new.scope }
-    ensures owned { AllOwned (heap run.new.store run.new.scope) run.new.values.items }
+    requires stands { Stands (states run.old.store) run.old.scope }
+    requires owned { AllOwned (heap (states run.old.store) run.old.scope) run.old.values.items }
+    ensures stands { Stands (states run.new.store) run.new.scope }
+    ensures owned { AllOwned (heap (states run.new.store) run.new.scope) run.new.values.items }
 {
     let (word, words) = words_of(alloc, line)?;
     lists::answer(run, alloc, word, &words)

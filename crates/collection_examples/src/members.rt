@@ -1,6 +1,7 @@
 //! The calls on Maps and Sets.
 #![tactic(auto, using(draft_runs::proofs::Held::all_grow))]
 
+ghost use Rattle.node_store.specs.Paged.{states};
 ghost use Rattle.run_heap.specs.Sound.{AllOwned};
 ghost use Rattle.draft_core.specs.Seen.{heap, Stands};
 
@@ -16,10 +17,10 @@ pub(crate) fn answer(
     word: &str,
     words: &[&str],
 ) -> Result<String, WordFault>
-    requires stands { Stands run.old.store run.old.scope }
-    requires owned { AllOwned (heap run.old.store run.old.scope) run.old.values.items }
-    ensures stands { Stands run.new.store run.new.scope }
-    ensures owned { AllOwned (heap run.new.store run.new.scope) run.new.values.items }
+    requires stands { Stands (states run.old.store) run.old.scope }
+    requires owned { AllOwned (heap (states run.old.store) run.old.scope) run.old.values.items }
+    ensures stands { Stands (states run.new.store) run.new.scope }
+    ensures owned { AllOwned (heap (states run.new.store) run.new.scope) run.new.values.items }
 {
     match word {
         "map_get" => map_get(run, alloc, words),
@@ -41,10 +42,10 @@ pub(crate) fn answer(
 
 /// `map_get MAP KEY`
 fn map_get(run: &mut Run, alloc: Global, words: &[&str]) -> Result<String, WordFault>
-    requires stands { Stands run.old.store run.old.scope }
-    requires owned { AllOwned (heap run.old.store run.old.scope) run.old.values.items }
-    ensures stands { Stands run.new.store run.new.scope }
-    ensures owned { AllOwned (heap run.new.store run.new.scope) run.new.values.items }
+    requires stands { Stands (states run.old.store) run.old.scope }
+    requires owned { AllOwned (heap (states run.old.store) run.old.scope) run.old.values.items }
+    ensures stands { Stands (states run.new.store) run.new.scope }
+    ensures owned { AllOwned (heap (states run.new.store) run.new.scope) run.new.values.items }
 {
     let of = operand(run, alloc, words, 0)?;
     let key = operand(run, alloc, words, 1)?;
@@ -54,10 +55,10 @@ fn map_get(run: &mut Run, alloc: Global, words: &[&str]) -> Result<String, WordF
 
 /// `map_has MAP KEY`
 fn map_has(run: &mut Run, alloc: Global, words: &[&str]) -> Result<String, WordFault>
-    requires stands { Stands run.old.store run.old.scope }
-    requires owned { AllOwned (heap run.old.store run.old.scope) run.old.values.items }
-    ensures stands { Stands run.new.store run.new.scope }
-    ensures owned { AllOwned (heap run.new.store run.new.scope) run.new.values.items }
+    requires stands { Stands (states run.old.store) run.old.scope }
+    requires owned { AllOwned (heap (states run.old.store) run.old.scope) run.old.values.items }
+    ensures stands { Stands (states run.new.store) run.new.scope }
+    ensures owned { AllOwned (heap (states run.new.store) run.new.scope) run.new.values.items }
 {
     let of = operand(run, alloc, words, 0)?;
     let key = operand(run, alloc, words, 1)?;
@@ -67,10 +68,10 @@ fn map_has(run: &mut Run, alloc: Global, words: &[&str]) -> Result<String, WordF
 
 /// `map_set MAP KEY VALUE`
 fn map_set(run: &mut Run, alloc: Global, words: &[&str]) -> Result<String, WordFault>
-    requires stands { Stands run.old.store run.old.scope }
-    requires owned { AllOwned (heap run.old.store run.old.scope) run.old.values.items }
-    ensures stands { Stands run.new.store run.new.scope }
-    ensures owned { AllOwned (heap run.new.store run.new.scope) run.new.values.items }
+    requires stands { Stands (states run.old.store) run.old.scope }
+    requires owned { AllOwned (heap (states run.old.store) run.old.scope) run.old.values.items }
+    ensures stands { Stands (states run.new.store) run.new.scope }
+    ensures owned { AllOwned (heap (states run.new.store) run.new.scope) run.new.values.items }
 {
     let of = operand(run, alloc, words, 0)?;
     let key = operand(run, alloc, words, 1)?;
@@ -81,10 +82,10 @@ fn map_set(run: &mut Run, alloc: Global, words: &[&str]) -> Result<String, WordF
 
 /// `map_delete MAP KEY`
 fn map_delete(run: &mut Run, alloc: Global, words: &[&str]) -> Result<String, WordFault>
-    requires stands { Stands run.old.store run.old.scope }
-    requires owned { AllOwned (heap run.old.store run.old.scope) run.old.values.items }
-    ensures stands { Stands run.new.store run.new.scope }
-    ensures owned { AllOwned (heap run.new.store run.new.scope) run.new.values.items }
+    requires stands { Stands (states run.old.store) run.old.scope }
+    requires owned { AllOwned (heap (states run.old.store) run.old.scope) run.old.values.items }
+    ensures stands { Stands (states run.new.store) run.new.scope }
+    ensures owned { AllOwned (heap (states run.new.store) run.new.scope) run.new.values.items }
 {
     let of = operand(run, alloc, words, 0)?;
     let key = operand(run, alloc, words, 1)?;
@@ -94,10 +95,10 @@ fn map_delete(run: &mut Run, alloc: Global, words: &[&str]) -> Result<String, Wo
 
 /// `map_clear MAP`
 fn map_clear(run: &mut Run, alloc: Global, words: &[&str]) -> Result<String, WordFault>
-    requires stands { Stands run.old.store run.old.scope }
-    requires owned { AllOwned (heap run.old.store run.old.scope) run.old.values.items }
-    ensures stands { Stands run.new.store run.new.scope }
-    ensures owned { AllOwned (heap run.new.store run.new.scope) run.new.values.items }
+    requires stands { Stands (states run.old.store) run.old.scope }
+    requires owned { AllOwned (heap (states run.old.store) run.old.scope) run.old.values.items }
+    ensures stands { Stands (states run.new.store) run.new.scope }
+    ensures owned { AllOwned (heap (states run.new.store) run.new.scope) run.new.values.items }
 {
     let of = operand(run, alloc, words, 0)?;
     let answer = draft_map_set::map_clear(alloc, &mut run.scope, &run.store, &of);
@@ -106,10 +107,10 @@ fn map_clear(run: &mut Run, alloc: Global, words: &[&str]) -> Result<String, Wor
 
 /// `set_add SET MEMBER`
 fn set_add(run: &mut Run, alloc: Global, words: &[&str]) -> Result<String, WordFault>
-    requires stands { Stands run.old.store run.old.scope }
-    requires owned { AllOwned (heap run.old.store run.old.scope) run.old.values.items }
-    ensures stands { Stands run.new.store run.new.scope }
-    ensures owned { AllOwned (heap run.new.store run.new.scope) run.new.values.items }
+    requires stands { Stands (states run.old.store) run.old.scope }
+    requires owned { AllOwned (heap (states run.old.store) run.old.scope) run.old.values.items }
+    ensures stands { Stands (states run.new.store) run.new.scope }
+    ensures owned { AllOwned (heap (states run.new.store) run.new.scope) run.new.values.items }
 {
     let of = operand(run, alloc, words, 0)?;
     let member = operand(run, alloc, words, 1)?;
@@ -119,10 +120,10 @@ fn set_add(run: &mut Run, alloc: Global, words: &[&str]) -> Result<String, WordF
 
 /// `set_has SET MEMBER`
 fn set_has(run: &mut Run, alloc: Global, words: &[&str]) -> Result<String, WordFault>
-    requires stands { Stands run.old.store run.old.scope }
-    requires owned { AllOwned (heap run.old.store run.old.scope) run.old.values.items }
-    ensures stands { Stands run.new.store run.new.scope }
-    ensures owned { AllOwned (heap run.new.store run.new.scope) run.new.values.items }
+    requires stands { Stands (states run.old.store) run.old.scope }
+    requires owned { AllOwned (heap (states run.old.store) run.old.scope) run.old.values.items }
+    ensures stands { Stands (states run.new.store) run.new.scope }
+    ensures owned { AllOwned (heap (states run.new.store) run.new.scope) run.new.values.items }
 {
     let of = operand(run, alloc, words, 0)?;
     let member = operand(run, alloc, words, 1)?;
@@ -132,10 +133,10 @@ fn set_has(run: &mut Run, alloc: Global, words: &[&str]) -> Result<String, WordF
 
 /// `set_delete SET MEMBER`
 fn set_delete(run: &mut Run, alloc: Global, words: &[&str]) -> Result<String, WordFault>
-    requires stands { Stands run.old.store run.old.scope }
-    requires owned { AllOwned (heap run.old.store run.old.scope) run.old.values.items }
-    ensures stands { Stands run.new.store run.new.scope }
-    ensures owned { AllOwned (heap run.new.store run.new.scope) run.new.values.items }
+    requires stands { Stands (states run.old.store) run.old.scope }
+    requires owned { AllOwned (heap (states run.old.store) run.old.scope) run.old.values.items }
+    ensures stands { Stands (states run.new.store) run.new.scope }
+    ensures owned { AllOwned (heap (states run.new.store) run.new.scope) run.new.values.items }
 {
     let of = operand(run, alloc, words, 0)?;
     let member = operand(run, alloc, words, 1)?;
@@ -145,10 +146,10 @@ fn set_delete(run: &mut Run, alloc: Global, words: &[&str]) -> Result<String, Wo
 
 /// `set_clear SET`
 fn set_clear(run: &mut Run, alloc: Global, words: &[&str]) -> Result<String, WordFault>
-    requires stands { Stands run.old.store run.old.scope }
-    requires owned { AllOwned (heap run.old.store run.old.scope) run.old.values.items }
-    ensures stands { Stands run.new.store run.new.scope }
-    ensures owned { AllOwned (heap run.new.store run.new.scope) run.new.values.items }
+    requires stands { Stands (states run.old.store) run.old.scope }
+    requires owned { AllOwned (heap (states run.old.store) run.old.scope) run.old.values.items }
+    ensures stands { Stands (states run.new.store) run.new.scope }
+    ensures owned { AllOwned (heap (states run.new.store) run.new.scope) run.new.values.items }
 {
     let of = operand(run, alloc, words, 0)?;
     let answer = draft_map_set::set_clear(alloc, &mut run.scope, &run.store, &of);
@@ -157,10 +158,10 @@ fn set_clear(run: &mut Run, alloc: Global, words: &[&str]) -> Result<String, Wor
 
 /// `size CONTAINER`
 fn size(run: &mut Run, alloc: Global, words: &[&str]) -> Result<String, WordFault>
-    requires stands { Stands run.old.store run.old.scope }
-    requires owned { AllOwned (heap run.old.store run.old.scope) run.old.values.items }
-    ensures stands { Stands run.new.store run.new.scope }
-    ensures owned { AllOwned (heap run.new.store run.new.scope) run.new.values.items }
+    requires stands { Stands (states run.old.store) run.old.scope }
+    requires owned { AllOwned (heap (states run.old.store) run.old.scope) run.old.values.items }
+    ensures stands { Stands (states run.new.store) run.new.scope }
+    ensures owned { AllOwned (heap (states run.new.store) run.new.scope) run.new.values.items }
 {
     let of = operand(run, alloc, words, 0)?;
     let answer = draft_map_set::size(&run.scope, &run.store, &of);
@@ -169,10 +170,10 @@ fn size(run: &mut Run, alloc: Global, words: &[&str]) -> Result<String, WordFaul
 
 /// `member_keys CONTAINER`
 fn member_keys(run: &mut Run, alloc: Global, words: &[&str]) -> Result<String, WordFault>
-    requires stands { Stands run.old.store run.old.scope }
-    requires owned { AllOwned (heap run.old.store run.old.scope) run.old.values.items }
-    ensures stands { Stands run.new.store run.new.scope }
-    ensures owned { AllOwned (heap run.new.store run.new.scope) run.new.values.items }
+    requires stands { Stands (states run.old.store) run.old.scope }
+    requires owned { AllOwned (heap (states run.old.store) run.old.scope) run.old.values.items }
+    ensures stands { Stands (states run.new.store) run.new.scope }
+    ensures owned { AllOwned (heap (states run.new.store) run.new.scope) run.new.values.items }
 {
     let of = operand(run, alloc, words, 0)?;
     let answer = draft_map_set::member_keys(alloc, &mut run.scope, &run.store, &of);
@@ -181,10 +182,10 @@ fn member_keys(run: &mut Run, alloc: Global, words: &[&str]) -> Result<String, W
 
 /// `new_map`
 fn new_map(run: &mut Run, alloc: Global) -> Result<String, WordFault>
-    requires stands { Stands run.old.store run.old.scope }
-    requires owned { AllOwned (heap run.old.store run.old.scope) run.old.values.items }
-    ensures stands { Stands run.new.store run.new.scope }
-    ensures owned { AllOwned (heap run.new.store run.new.scope) run.new.values.items }
+    requires stands { Stands (states run.old.store) run.old.scope }
+    requires owned { AllOwned (heap (states run.old.store) run.old.scope) run.old.values.items }
+    ensures stands { Stands (states run.new.store) run.new.scope }
+    ensures owned { AllOwned (heap (states run.new.store) run.new.scope) run.new.values.items }
 {
     let answer = draft_map_set::new_map(alloc, &mut run.scope)?;
     Ok(run.keep(alloc, Ok(answer))?)
@@ -192,10 +193,10 @@ fn new_map(run: &mut Run, alloc: Global) -> Result<String, WordFault>
 
 /// `new_set`
 fn new_set(run: &mut Run, alloc: Global) -> Result<String, WordFault>
-    requires stands { Stands run.old.store run.old.scope }
-    requires owned { AllOwned (heap run.old.store run.old.scope) run.old.values.items }
-    ensures stands { Stands run.new.store run.new.scope }
-    ensures owned { AllOwned (heap run.new.store run.new.scope) run.new.values.items }
+    requires stands { Stands (states run.old.store) run.old.scope }
+    requires owned { AllOwned (heap (states run.old.store) run.old.scope) run.old.values.items }
+    ensures stands { Stands (states run.new.store) run.new.scope }
+    ensures owned { AllOwned (heap (states run.new.store) run.new.scope) run.new.values.items }
 {
     let answer = draft_map_set::new_set(alloc, &mut run.scope)?;
     Ok(run.keep(alloc, Ok(answer))?)

@@ -1,4 +1,5 @@
 //! The calls on objects, which make what the other calls are tried on.
+ghost use Rattle.node_store.specs.Paged.{states};
 ghost use Rattle.run_heap.specs.Sound.{AllOwned};
 ghost use Rattle.draft_core.specs.Seen.{heap, Stands};
 
@@ -14,10 +15,10 @@ pub(crate) fn answer(
     call: &str,
     words: &[&str],
 ) -> Result<String, WordFault>
-    requires stands { Stands run.old.store run.old.scope }
-    requires owned { AllOwned (heap run.old.store run.old.scope) run.old.values.items }
-    ensures stands { Stands run.new.store run.new.scope }
-    ensures owned { AllOwned (heap run.new.store run.new.scope) run.new.values.items }
+    requires stands { Stands (states run.old.store) run.old.scope }
+    requires owned { AllOwned (heap (states run.old.store) run.old.scope) run.old.values.items }
+    ensures stands { Stands (states run.new.store) run.new.scope }
+    ensures owned { AllOwned (heap (states run.new.store) run.new.scope) run.new.values.items }
 {
     match call {
         "get" => get(run, alloc, words),
@@ -34,10 +35,10 @@ pub(crate) fn answer(
 
 /// `get CONTAINER KEY`
 fn get(run: &mut Run, alloc: Global, words: &[&str]) -> Result<String, WordFault>
-    requires stands { Stands run.old.store run.old.scope }
-    requires owned { AllOwned (heap run.old.store run.old.scope) run.old.values.items }
-    ensures stands { Stands run.new.store run.new.scope }
-    ensures owned { AllOwned (heap run.new.store run.new.scope) run.new.values.items }
+    requires stands { Stands (states run.old.store) run.old.scope }
+    requires owned { AllOwned (heap (states run.old.store) run.old.scope) run.old.values.items }
+    ensures stands { Stands (states run.new.store) run.new.scope }
+    ensures owned { AllOwned (heap (states run.new.store) run.new.scope) run.new.values.items }
 {
     let of = operand_of(alloc, word(words, 0)?)?;
     let key = key_of(alloc, word(words, 1)?)?;
@@ -46,10 +47,10 @@ fn get(run: &mut Run, alloc: Global, words: &[&str]) -> Result<String, WordFault
 
 /// `put CONTAINER KEY VALUE`
 fn put(run: &mut Run, alloc: Global, words: &[&str]) -> Result<String, WordFault>
-    requires stands { Stands run.old.store run.old.scope }
-    requires owned { AllOwned (heap run.old.store run.old.scope) run.old.values.items }
-    ensures stands { Stands run.new.store run.new.scope }
-    ensures owned { AllOwned (heap run.new.store run.new.scope) run.new.values.items }
+    requires stands { Stands (states run.old.store) run.old.scope }
+    requires owned { AllOwned (heap (states run.old.store) run.old.scope) run.old.values.items }
+    ensures stands { Stands (states run.new.store) run.new.scope }
+    ensures owned { AllOwned (heap (states run.new.store) run.new.scope) run.new.values.items }
 {
     let of = operand_of(alloc, word(words, 0)?)?;
     let key = key_of(alloc, word(words, 1)?)?;
@@ -59,10 +60,10 @@ fn put(run: &mut Run, alloc: Global, words: &[&str]) -> Result<String, WordFault
 
 /// `original DRAFT`
 fn original(run: &mut Run, alloc: Global, words: &[&str]) -> Result<String, WordFault>
-    requires stands { Stands run.old.store run.old.scope }
-    requires owned { AllOwned (heap run.old.store run.old.scope) run.old.values.items }
-    ensures stands { Stands run.new.store run.new.scope }
-    ensures owned { AllOwned (heap run.new.store run.new.scope) run.new.values.items }
+    requires stands { Stands (states run.old.store) run.old.scope }
+    requires owned { AllOwned (heap (states run.old.store) run.old.scope) run.old.values.items }
+    ensures stands { Stands (states run.new.store) run.new.scope }
+    ensures owned { AllOwned (heap (states run.new.store) run.new.scope) run.new.values.items }
 {
     let of = operand_of(alloc, word(words, 0)?)?;
     Ok(run.original(alloc, &of)?)
@@ -70,10 +71,10 @@ fn original(run: &mut Run, alloc: Global, words: &[&str]) -> Result<String, Word
 
 /// `plain JSON`: fresh objects
 fn plain(run: &mut Run, alloc: Global, words: &[&str]) -> Result<String, WordFault>
-    requires stands { Stands run.old.store run.old.scope }
-    requires owned { AllOwned (heap run.old.store run.old.scope) run.old.values.items }
-    ensures stands { Stands run.new.store run.new.scope }
-    ensures owned { AllOwned (heap run.new.store run.new.scope) run.new.values.items }
+    requires stands { Stands (states run.old.store) run.old.scope }
+    requires owned { AllOwned (heap (states run.old.store) run.old.scope) run.old.values.items }
+    ensures stands { Stands (states run.new.store) run.new.scope }
+    ensures owned { AllOwned (heap (states run.new.store) run.new.scope) run.new.values.items }
 {
     let v = value_of(alloc, word(words, 0)?)?;
     Ok(run.plain(alloc, &v)?)

@@ -1,4 +1,5 @@
 //! The operands of a call.
+ghost use Rattle.node_store.specs.Paged.{states};
 ghost use Rattle.std.specs.Prelude.{IfOk};
 ghost use Rattle.run_heap.specs.Sound.{AllOwned, Owned};
 ghost use Rattle.draft_core.specs.Seen.{heap};
@@ -9,8 +10,8 @@ use std::alloc::Global;
 
 /// The value of the i-th word, `Unexpected` where there is none.
 pub(crate) fn operand(run: &Run, alloc: Global, words: &[&str], i: usize) -> Result<Rv, WordFault>
-    requires { AllOwned (heap run.now.store run.now.scope) run.now.values.items }
-    ensures { IfOk result (λ v. Owned (heap run.now.store run.now.scope) v) }
+    requires { AllOwned (heap (states run.now.store) run.now.scope) run.now.values.items }
+    ensures { IfOk result (λ v. Owned (heap (states run.now.store) run.now.scope) v) }
 {
     let operand = operand_of(alloc, word(words, i)?)?;
     Ok(run.value(alloc, &operand)?)
@@ -24,8 +25,8 @@ pub(crate) fn operands(
     words: &[&str],
     from: usize,
 ) -> Result<Vec<Rv>, WordFault>
-    requires { AllOwned (heap run.now.store run.now.scope) run.now.values.items }
-    ensures { IfOk result (λ vs. AllOwned (heap run.now.store run.now.scope) vs.items) }
+    requires { AllOwned (heap (states run.now.store) run.now.scope) run.now.values.items }
+    ensures { IfOk result (λ vs. AllOwned (heap (states run.now.store) run.now.scope) vs.items) }
 {
     let mut out = Vec::new(alloc);
     for i in from..words.len() {

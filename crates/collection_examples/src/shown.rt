@@ -1,4 +1,5 @@
 //! What a container holds.
+ghost use Rattle.node_store.specs.Paged.{states};
 ghost use Rattle.std.specs.Prelude.{◌≡◌, ◌<◌, Some};
 ghost use Rattle.run_heap.specs.Operations as spec;
 ghost use Rattle.run_heap.specs.Sound.{AllOwned, IsContainer, Owned};
@@ -11,10 +12,10 @@ use std::alloc::Global;
 
 /// `show VALUE`: a container's kind, `*` where its mark is set, and its entries.
 pub(crate) fn show(run: &mut Run, alloc: Global, words: &[&str]) -> Result<String, WordFault>
-    requires stands { Stands run.old.store run.old.scope }
-    requires owned { AllOwned (heap run.old.store run.old.scope) run.old.values.items }
-    ensures stands { Stands run.new.store run.new.scope }
-    ensures owned { AllOwned (heap run.new.store run.new.scope) run.new.values.items }
+    requires stands { Stands (states run.old.store) run.old.scope }
+    requires owned { AllOwned (heap (states run.old.store) run.old.scope) run.old.values.items }
+    ensures stands { Stands (states run.new.store) run.new.scope }
+    ensures owned { AllOwned (heap (states run.new.store) run.new.scope) run.new.values.items }
 {
     let of = operand(run, alloc, words, 0)?;
     content(alloc, &mut run.scope, &run.store, &of)
@@ -23,8 +24,8 @@ pub(crate) fn show(run: &mut Run, alloc: Global, words: &[&str]) -> Result<Strin
 /// What a value holds; a reference of another scope is `foreign`.
 #[tactic(auto, using(draft_runs::proofs::Asked::container_is))]
 fn content(alloc: Global, scope: &mut Scope, store: &Store, of: &Rv) -> Result<String, WordFault>
-    requires stands { Stands store.now scope.old }
-    requires owned { Owned (heap store.now scope.old) of.now }
+    requires stands { Stands (states store.now) scope.old }
+    requires owned { Owned (heap (states store.now) scope.old) of.now }
     ensures same { scope.new ≡ scope.old }
 {
     if !scope.owns(of) {
@@ -51,9 +52,9 @@ fn push_entries(
     kind: Kind,
     out: &mut String,
 ) -> Result<(), WordFault>
-    requires stands { Stands store.now scope.old }
-    requires container { IsContainer (heap store.now scope.old) of.now }
-    requires kind { spec.kind_of (heap store.now scope.old) of.now ≡ Some kind }
+    requires stands { Stands (states store.now) scope.old }
+    requires container { IsContainer (heap (states store.now) scope.old) of.now }
+    requires kind { spec.kind_of (heap (states store.now) scope.old) of.now ≡ Some kind }
     ensures same { scope.new ≡ scope.old }
 {
     for i in 0..scope.count(store, of) {
@@ -75,10 +76,10 @@ fn push_key(
     i: usize,
     out: &mut String,
 ) -> Result<(), WordFault>
-    requires stands { Stands store.now scope.now }
-    requires container { IsContainer (heap store.now scope.now) of.now }
-    requires kind { spec.kind_of (heap store.now scope.now) of.now ≡ Some kind }
-    requires in_range { i < spec.count (heap store.now scope.now) of.now }
+    requires stands { Stands (states store.now) scope.now }
+    requires container { IsContainer (heap (states store.now) scope.now) of.now }
+    requires kind { spec.kind_of (heap (states store.now) scope.now) of.now ≡ Some kind }
+    requires in_range { i < spec.count (heap (states store.now) scope.now) of.now }
 {
     let key = match kind {
         Kind::List => return Ok(()),

@@ -13,7 +13,7 @@ use Rattle.numbered.specs.Store.{IsNumber, IsStore, IsOf, tree_at}
 use Rattle.numbered.specs.Tree.{Tree, prim, node, containers, containers_in, branches_of, before, place}
 use Rattle.node_store.specs.Nodes.{cell_of, cells_of}
 use Rattle.node_store.proofs.Tables.{cell_again}
-use Rattle.node_store.specs.declared.node.Cell.TheVariants as cell
+use Rattle.page_tables.specs.declared.cell.Cell.TheVariants as cell
 use Rattle.run_heap.specs.declared.value.ObjRef.{ObjRef}
 use Rattle.run_heap.specs.declared.value.Rv.{Rv}
 use Rattle.run_heap.specs.declared.value.Rv.TheVariants.{Undefined, Prim, Obj, Frozen}

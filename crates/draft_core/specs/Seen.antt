@@ -8,7 +8,7 @@ use Rattle.numbered.specs.Tree.{Tree, containers, place}
 use Rattle.run_heap.specs.declared.value.Rv.{Rv}
 use Rattle.run_heap.specs.declared.value.Given.{Given}
 use Rattle.node_store.specs.Nodes.{cells_of}
-use Rattle.node_store.specs.declared.node.Cell.{Cell}
+use Rattle.page_tables.specs.declared.cell.Cell.{Cell}
 use Rattle.draft_slots.specs.Nodes.{given_cell}
 use Rattle.run_heap.specs.declared.content.Content.{Content}
 use Rattle.run_heap.specs.Heap.{Heap, copied}

@@ -1,4 +1,5 @@
 //! Calls that make objects.
+ghost use Rattle.node_store.specs.Paged.{states};
 ghost use Rattle.std.specs.Prelude.{◌≡◌, ◌+◌, ◌≤◌, [], IfOk, List, None};
 ghost use Rattle.numbered.specs.Tree.{Tree};
 ghost use Rattle.value_model.specs.Limits.{value_limit};
@@ -61,12 +62,12 @@ impl Scope {
     /// A fresh list of an object's keys, ascending. `TypeMismatch` for another operand.
     /// `Revoked` where an operand is a reference of another scope. `Memory` where memory runs out. After each of them all is as before.
     pub fn keys(&mut self, alloc: Global, store: &Store, of: &Rv) -> Result<Rv, DraftFault>
-        requires stands { Stands store.now self.old }
-        requires owned { Owned (heap store.now self.old) of.now }
-        ensures done { Does result (heap store.now self.old) (heap store.now self.new) (spec.keys (heap store.now self.old) of.now) }
-        ensures stands { Stands store.now self.new }
-        ensures grows { Grows (heap store.now self.old) (heap store.now self.new) }
-        ensures fits { IfOk result (λ v. Fits (heap store.now self.new) v) }
+        requires stands { Stands (states store.now) self.old }
+        requires owned { Owned (heap (states store.now) self.old) of.now }
+        ensures done { Does result (heap (states store.now) self.old) (heap (states store.now) self.new) (spec.keys (heap (states store.now) self.old) of.now) }
+        ensures stands { Stands (states store.now) self.new }
+        ensures grows { Grows (heap (states store.now) self.old) (heap (states store.now) self.new) }
+        ensures fits { IfOk result (λ v. Fits (heap (states store.now) self.new) v) }
         ensures tables { slots self.new ≤ slots self.old + 1 }
     {
         let table = self.key_list(alloc, store, of)?;
@@ -81,9 +82,9 @@ impl Scope {
 
     /// An object's keys as elements of a list, or the refusal of `keys`.
     fn key_list(&self, alloc: Global, store: &Store, of: &Rv) -> Result<Table, DraftFault>
-        requires stands { Stands store.now self.now }
-        requires owned { Owned (heap store.now self.now) of.now }
-        ensures { Answers result (read spec.keys_shown (heap store.now self.now) of.now []) }
+        requires stands { Stands (states store.now) self.now }
+        requires owned { Owned (heap (states store.now) self.now) of.now }
+        ensures { Answers result (read spec.keys_shown (heap (states store.now) self.now) of.now []) }
     {
         if !self.owns(of) {
             return Err(DraftFault::Revoked);

@@ -1,4 +1,5 @@
 //! Fresh lists of given values.
+ghost use Rattle.node_store.specs.Paged.{states};
 ghost use Rattle.std.specs.Prelude.{◌≡◌, ◌+◌, ◌<◌, ◌≤◌, List, [], ◌∷◌, Some, OnOk, IfOk, map, vec_len, vec_capacity};
 ghost use Rattle.numbered.specs.Tree.{Tree};
 ghost use Rattle.value_model.specs.declared.kind.Kind.TheVariants as kind;
@@ -21,12 +22,12 @@ use value_model::Key;
 impl Scope {
     /// A fresh list of these values. After want of memory all is as before.
     pub fn list_of(&mut self, alloc: Global, store: &Store, items: &[Rv]) -> Result<Rv, AllocError>
-        requires stands { Stands store.now self.old }
-        requires stored { AllStored (heap store.now self.old) items.now }
-        ensures done { Makes result (heap store.now self.old) (heap store.now self.new) (with_object (fresh kind.List (map item items.now)) (heap store.now self.old)) (next_object (heap store.now self.old)) }
-        ensures stands { Stands store.now self.new }
-        ensures grows { Grows (heap store.now self.old) (heap store.now self.new) }
-        ensures fits { IfOk result (λ v. Fits (heap store.now self.new) v) }
+        requires stands { Stands (states store.now) self.old }
+        requires stored { AllStored (heap (states store.now) self.old) items.now }
+        ensures done { Makes result (heap (states store.now) self.old) (heap (states store.now) self.new) (with_object (fresh kind.List (map item items.now)) (heap (states store.now) self.old)) (next_object (heap (states store.now) self.old)) }
+        ensures stands { Stands (states store.now) self.new }
+        ensures grows { Grows (heap (states store.now) self.old) (heap (states store.now) self.new) }
+        ensures fits { IfOk result (λ v. Fits (heap (states store.now) self.new) v) }
         ensures tables { slots self.new ≤ slots self.old + 1 }
     {
         let list = list_content(alloc, items)?;
@@ -46,17 +47,17 @@ impl Scope {
         items: &[Rv],
         others: &[Rv],
     ) -> Result<Rv, AllocError>
-        requires stands { Stands store.now self.old }
-        requires object { IsObject (heap store.now self.old) of.now }
-        requires list { spec.kind_of (heap store.now self.old) of.now ≡ Some kind.List }
+        requires stands { Stands (states store.now) self.old }
+        requires object { IsObject (heap (states store.now) self.old) of.now }
+        requires list { spec.kind_of (heap (states store.now) self.old) of.now ≡ Some kind.List }
         requires ordered { from ≤ to }
-        requires in_range { to ≤ spec.count (heap store.now self.old) of.now }
-        requires stored { AllStored (heap store.now self.old) items.now }
-        requires others { AllStored (heap store.now self.old) others.now }
-        ensures done { Makes result (heap store.now self.old) (heap store.now self.new) (with_object (fresh kind.List (map item others.now)) (spec.splice_at from to items.now (heap store.now self.old) of.now)) (next_object (heap store.now self.old)) }
-        ensures stands { Stands store.now self.new }
-        ensures grows { Grows (heap store.now self.old) (heap store.now self.new) }
-        ensures fits { IfOk result (λ v. Fits (heap store.now self.new) v) }
+        requires in_range { to ≤ spec.count (heap (states store.now) self.old) of.now }
+        requires stored { AllStored (heap (states store.now) self.old) items.now }
+        requires others { AllStored (heap (states store.now) self.old) others.now }
+        ensures done { Makes result (heap (states store.now) self.old) (heap (states store.now) self.new) (with_object (fresh kind.List (map item others.now)) (spec.splice_at from to items.now (heap (states store.now) self.old) of.now)) (next_object (heap (states store.now) self.old)) }
+        ensures stands { Stands (states store.now) self.new }
+        ensures grows { Grows (heap (states store.now) self.old) (heap (states store.now) self.new) }
+        ensures fits { IfOk result (λ v. Fits (heap (states store.now) self.new) v) }
         ensures tables { slots self.new ≤ slots self.old + 2 }
     {
         let list = list_content(alloc, others)?;

@@ -1,4 +1,5 @@
 //! Which change a refusing call makes.
+ghost use Rattle.node_store.specs.Paged.{states};
 ghost use Rattle.std.specs.Prelude.{◌≡◌, MatchOption, true, false, length};
 ghost use Rattle.value_model.specs.declared.key.Key.TheVariants as key_model;
 ghost use Rattle.value_model.specs.declared.kind.Kind.TheVariants as kind;
@@ -23,8 +24,8 @@ pub fn plan_put<'a>(
     key: &Key,
     value: Rv,
 ) -> Result<Change<'a>, DraftFault>
-    requires { IsLook store.now look.now }
-    ensures { Answers result (put_plan key.now value (spec.is_frozen of.now) (kind_in (looked store.now look.now)) (rows_of (looked store.now look.now))) }
+    requires { IsLook (states store.now) look.now }
+    ensures { Answers result (put_plan key.now value (spec.is_frozen of.now) (kind_in (looked (states store.now) look.now)) (rows_of (looked (states store.now) look.now))) }
 {
     match look.kind(store) {
         Kind::Obj => match key {
@@ -98,8 +99,8 @@ fn index_in(at: Safe, len: usize) -> Option<usize>
 
 /// Whether an object's entry may be removed.
 pub fn plan_remove(store: &Store, look: &Look, of: &Rv, key: &Key) -> Result<(), DraftFault>
-    requires { IsLook store.now look.now }
-    ensures { result ≡ remove_plan key.now (spec.is_frozen of.now) (kind_in (looked store.now look.now)) }
+    requires { IsLook (states store.now) look.now }
+    ensures { result ≡ remove_plan key.now (spec.is_frozen of.now) (kind_in (looked (states store.now) look.now)) }
 {
     let Key::Text(text) = key else {
         return Err(DraftFault::TypeMismatch);

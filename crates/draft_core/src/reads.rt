@@ -1,4 +1,5 @@
 //! Calls that read. None of them makes an object's table.
+ghost use Rattle.node_store.specs.Paged.{states};
 ghost use Rattle.std.specs.BTreeMap.{get};
 ghost use Rattle.std.specs.List.{list_any, All};
 ghost use Rattle.std.specs.Ordering.{nat_cmp};
@@ -36,10 +37,10 @@ impl Scope {
         of: &Rv,
         key: &Key,
     ) -> Result<Rv, DraftFault>
-        requires stands { Stands store.now self.old }
-        requires owned { Owned (heap store.now self.old) of.now }
-        ensures answer { Answers result (spec.get key.now (heap store.now self.old) of.now) }
-        ensures fits { IfOk result (λ v. Fits (heap store.now self.old) v) }
+        requires stands { Stands (states store.now) self.old }
+        requires owned { Owned (heap (states store.now) self.old) of.now }
+        ensures answer { Answers result (spec.get key.now (heap (states store.now) self.old) of.now) }
+        ensures fits { IfOk result (λ v. Fits (heap (states store.now) self.old) v) }
         ensures same { self.new ≡ self.old }
     {
         if !self.owns(of) {
@@ -54,9 +55,9 @@ impl Scope {
     /// The length of a list. `TypeMismatch` for another operand. It takes no memory.
     /// `Revoked` where an operand is a reference of another scope.
     pub fn len(&self, store: &Store, of: &Rv) -> Result<u64, DraftFault>
-        requires stands { Stands store.now self.now }
-        requires owned { Owned (heap store.now self.now) of.now }
-        ensures { result ≡ spec.len (heap store.now self.now) of.now }
+        requires stands { Stands (states store.now) self.now }
+        requires owned { Owned (heap (states store.now) self.now) of.now }
+        ensures { result ≡ spec.len (heap (states store.now) self.now) of.now }
     {
         if !self.owns(of) {
             return Err(DraftFault::Revoked);
@@ -73,9 +74,9 @@ impl Scope {
     /// The frozen container that a draft was opened on; `NotADraft` for any other value of the scope. It takes no memory.
     /// `Revoked` where an operand is a reference of another scope.
     pub fn original(&self, store: &Store, v: &Rv) -> Result<Rv, DraftFault>
-        requires { Stands store.now self.now }
-        ensures answer { result ≡ spec.original (heap store.now self.now) v.now }
-        ensures fits { IfOk result (λ w. Fits (heap store.now self.now) w) }
+        requires { Stands (states store.now) self.now }
+        ensures answer { result ≡ spec.original (heap (states store.now) self.now) v.now }
+        ensures fits { IfOk result (λ w. Fits (heap (states store.now) self.now) w) }
     {
         if !self.owns(v) {
             return Err(DraftFault::Revoked);
@@ -101,10 +102,10 @@ impl Scope {
 
     /// What kind of container a value is, None exactly for `Undefined` and a primitive. It takes no memory.
     pub fn kind_of(&self, store: &Store, v: &Rv) -> Option<Kind>
-        requires stands { Stands store.now self.now }
-        requires owned { Owned (heap store.now self.now) v.now }
-        requires ours { is_foreign (heap store.now self.now) v.now ≡ false }
-        ensures { result ≡ spec.kind_of (heap store.now self.now) v.now }
+        requires stands { Stands (states store.now) self.now }
+        requires owned { Owned (heap (states store.now) self.now) v.now }
+        requires ours { is_foreign (heap (states store.now) self.now) v.now ≡ false }
+        ensures { result ≡ spec.kind_of (heap (states store.now) self.now) v.now }
     {
         match self.look(store, v) {
             Some(look) => Some(look.kind(store)),
@@ -114,9 +115,9 @@ impl Scope {
 
     /// How many entries a container has. It takes no memory.
     pub fn count(&self, store: &Store, of: &Rv) -> usize
-        requires stands { Stands store.now self.now }
-        requires container { IsContainer (heap store.now self.now) of.now }
-        ensures value { result ≡ spec.count (heap store.now self.now) of.now }
+        requires stands { Stands (states store.now) self.now }
+        requires container { IsContainer (heap (states store.now) self.now) of.now }
+        ensures value { result ≡ spec.count (heap (states store.now) self.now) of.now }
         ensures small { result < 2 ^ 63 }
     {
         match self.look(store, of) {
@@ -127,10 +128,10 @@ impl Scope {
 
     /// The index of the entry with a key, None exactly where the key is absent. It takes no memory.
     pub fn find(&self, store: &Store, of: &Rv, key: &Key) -> Option<usize>
-        requires stands { Stands store.now self.now }
-        requires container { IsContainer (heap store.now self.now) of.now }
-        requires keyed { spec.kind_of (heap store.now self.now) of.now ≢ Some kind.List }
-        ensures { result ≡ spec.find_key (heap store.now self.now) of.now key.now }
+        requires stands { Stands (states store.now) self.now }
+        requires container { IsContainer (heap (states store.now) self.now) of.now }
+        requires keyed { spec.kind_of (heap (states store.now) self.now) of.now ≢ Some kind.List }
+        ensures { result ≡ spec.find_key (heap (states store.now) self.now) of.now key.now }
     {
         match self.look(store, of) {
             Some(look) => look.find(store, key),
@@ -140,11 +141,11 @@ impl Scope {
 
     /// The key of an entry. It takes no memory.
     pub fn key_at<'a>(&'a self, store: &'a Store, of: &Rv, i: usize) -> &'a Key
-        requires stands { Stands store.now self.now }
-        requires container { IsContainer (heap store.now self.now) of.now }
-        requires keyed { spec.kind_of (heap store.now self.now) of.now ≢ Some kind.List }
-        requires in_range { i < spec.count (heap store.now self.now) of.now }
-        ensures { spec.key_at (heap store.now self.now) of.now i ≡ Some result.now }
+        requires stands { Stands (states store.now) self.now }
+        requires container { IsContainer (heap (states store.now) self.now) of.now }
+        requires keyed { spec.kind_of (heap (states store.now) self.now) of.now ≢ Some kind.List }
+        requires in_range { i < spec.count (heap (states store.now) self.now) of.now }
+        ensures { spec.key_at (heap (states store.now) self.now) of.now i ≡ Some result.now }
     {
         match self.look(store, of) {
             Some(look) => look.key(store, i),
@@ -160,11 +161,11 @@ impl Scope {
         of: &Rv,
         i: usize,
     ) -> Result<Rv, AllocError>
-        requires stands { Stands store.now self.old }
-        requires container { IsContainer (heap store.now self.old) of.now }
-        requires in_range { i < spec.count (heap store.now self.old) of.now }
-        ensures value { IfOk result (λ v. spec.entry_at (heap store.now self.old) of.now i ≡ Some v) }
-        ensures stored { IfOk result (λ v. IsStored (heap store.now self.old) v) }
+        requires stands { Stands (states store.now) self.old }
+        requires container { IsContainer (heap (states store.now) self.old) of.now }
+        requires in_range { i < spec.count (heap (states store.now) self.old) of.now }
+        ensures value { IfOk result (λ v. spec.entry_at (heap (states store.now) self.old) of.now i ≡ Some v) }
+        ensures stored { IfOk result (λ v. IsStored (heap (states store.now) self.old) v) }
         ensures same { self.new ≡ self.old }
     {
         match self.look(store, of) {
@@ -176,10 +177,10 @@ impl Scope {
     /// The value of an entry as it is kept: `Read` where the container has a table of its own, else `Untouched`, the cell at that
     /// index of the node that it was opened on. It takes no memory.
     pub fn peek<'a>(&'a self, store: &'a Store, of: &Rv, i: usize) -> Peek<'a>
-        requires stands { Stands store.now self.now }
-        requires container { IsContainer (heap store.now self.now) of.now }
-        requires in_range { i < spec.count (heap store.now self.now) of.now }
-        ensures { IsPeek store.now self.now of.now i result }
+        requires stands { Stands (states store.now) self.now }
+        requires container { IsContainer (heap (states store.now) self.now) of.now }
+        requires in_range { i < spec.count (heap (states store.now) self.now) of.now }
+        ensures { IsPeek (states store.now) self.now of.now i result }
     {
         match self.look(store, of) {
             Some(look) => look.peek(store, i),
@@ -189,10 +190,10 @@ impl Scope {
 
     /// Whether the value of an entry is the same as another one. It takes no memory.
     pub fn same_at(&self, store: &Store, of: &Rv, i: usize, item: &Rv) -> bool
-        requires stands { Stands store.now self.now }
-        requires container { IsContainer (heap store.now self.now) of.now }
-        requires in_range { i < spec.count (heap store.now self.now) of.now }
-        ensures { IfSome (spec.entry_at (heap store.now self.now) of.now i) (λ v. result ≡ same v item.now) }
+        requires stands { Stands (states store.now) self.now }
+        requires container { IsContainer (heap (states store.now) self.now) of.now }
+        requires in_range { i < spec.count (heap (states store.now) self.now) of.now }
+        ensures { IfSome (spec.entry_at (heap (states store.now) self.now) of.now i) (λ v. result ≡ same v item.now) }
     {
         match self.look(store, of) {
             Some(look) => look.same(store, i, item),
@@ -212,9 +213,9 @@ impl Scope {
 
     /// The container that the object was opened on, None exactly for a literal; of a frozen container itself. It takes no memory.
     pub fn source(&self, store: &Store, of: &Rv) -> Option<NodeId>
-        requires stands { Stands store.now self.now }
-        requires container { IsContainer (heap store.now self.now) of.now }
-        ensures { result ≡ spec.source (heap store.now self.now) of.now }
+        requires stands { Stands (states store.now) self.now }
+        requires container { IsContainer (heap (states store.now) self.now) of.now }
+        ensures { result ≡ spec.source (heap (states store.now) self.now) of.now }
     {
         match self.look(store, of) {
             Some(look) => look.source(),
@@ -229,8 +230,8 @@ impl Scope {
         store: &Store,
         of: &Rv,
     ) -> Result<Option<Path>, AllocError>
-        requires { Stands store.now self.now }
-        ensures { IfOk result (λ p. p ≡ places.place_of (heap store.now self.now) of.now) }
+        requires { Stands (states store.now) self.now }
+        ensures { IfOk result (λ p. p ≡ places.place_of (heap (states store.now) self.now) of.now) }
     {
         match of {
             Rv::Obj(object) => {
@@ -271,10 +272,10 @@ fn any_marked(touched: &BTreeMap<u64, Content>, drafts: u32) -> bool
 
 /// The path of the n-th container place of a state.
 fn path_to(alloc: Global, store: &Store, root: NodeId, n: u64) -> Result<Path, AllocError>
-    requires store { IsStore store.now }
-    requires number { IsNumber store.now root }
-    requires inside { n < containers (tree_at store.now root) }
-    ensures { IfOk result (λ p. p ≡ places.path_to n (tree_at store.now root)) }
+    requires store { IsStore (states store.now) }
+    requires number { IsNumber (states store.now) root }
+    requires inside { n < containers (tree_at (states store.now) root) }
+    ensures { IfOk result (λ p. p ≡ places.path_to n (tree_at (states store.now) root)) }
 {
     let mut steps = Vec::new(alloc);
     let mut id = root;
@@ -290,10 +291,10 @@ fn path_to(alloc: Global, store: &Store, root: NodeId, n: u64) -> Result<Path, A
 
 /// The step to an entry: an index of a list, else the key.
 fn step(alloc: Global, store: &Store, id: NodeId, i: usize) -> Result<Key, AllocError>
-    requires store { IsStore store.now }
-    requires number { IsNumber store.now id }
-    requires in_range { i < length (cells_of (tree_at store.now id)) }
-    ensures { IfOk result (λ k. IsStep (tree_at store.now id) i k) }
+    requires store { IsStore (states store.now) }
+    requires number { IsNumber (states store.now) id }
+    requires in_range { i < length (cells_of (tree_at (states store.now) id)) }
+    ensures { IfOk result (λ k. IsStep (tree_at (states store.now) id) i k) }
 {
     match store.kind(id) {
         Kind::List => match Safe::of(i as i64) {
@@ -306,11 +307,11 @@ fn step(alloc: Global, store: &Store, id: NodeId, i: usize) -> Result<Key, Alloc
 
 /// The container in an entry.
 fn child(store: &Store, id: NodeId, i: usize) -> NodeId
-    requires number { IsNumber store.now id }
-    requires in_range { i < length (cells_of (tree_at store.now id)) }
-    requires inside { HasPlaces i (branches_of (tree_at store.now id)) }
-    ensures number { IsNumber store.now result }
-    ensures child { slice_get (children (branches_of (tree_at store.now id))) i ≡ Some (tree_at store.now result) }
+    requires number { IsNumber (states store.now) id }
+    requires in_range { i < length (cells_of (tree_at (states store.now) id)) }
+    requires inside { HasPlaces i (branches_of (tree_at (states store.now) id)) }
+    ensures number { IsNumber (states store.now) result }
+    ensures child { slice_get (children (branches_of (tree_at (states store.now) id))) i ≡ Some (tree_at (states store.now) result) }
 {
     match store.cell(id, i) {
         Cell::Node(child) => *child,

@@ -1,3 +1,4 @@
+ghost use Rattle.node_store.specs.Paged.{states};
 ghost use Rattle.std.specs.Prelude.{◌≡◌, ◌<◌, ◌≤◌, ◌+◌, false, List, IfOk, MatchOption, None, length};
 ghost use Rattle.numbered.specs.Store.{IsNumber, tree_at};
 ghost use Rattle.numbered.specs.Tree.{Tree};
@@ -40,9 +41,9 @@ impl Scope {
         store: &Store,
         root: NodeId,
     ) -> Result<Scope, AllocError>
-        requires { root ≤ length store.now }
-        ensures heap { IfOk result (λ s. heap store.now s ≡ opened ticket store.now root) }
-        ensures stands { IfOk result (λ s. Stands store.now s) }
+        requires { root ≤ length (states store.now) }
+        ensures heap { IfOk result (λ s. heap (states store.now) s ≡ opened ticket (states store.now) root) }
+        ensures stands { IfOk result (λ s. Stands (states store.now) s) }
     {
         let _from_one = root.get();
         Ok(Scope {
@@ -96,10 +97,10 @@ impl Scope {
 
     /// The container that a value is, if it is one.
     pub(crate) fn look(&self, store: &Store, of: &Rv) -> Option<Look<'_>>
-        requires stands { Stands store.now self.now }
-        requires owned { Owned (heap store.now self.now) of.now }
-        requires ours { is_foreign (heap store.now self.now) of.now ≡ false }
-        ensures { MatchOption result (shown (heap store.now self.now) of.now ≡ None) (λ l. (looked store.now l ≡ shown (heap store.now self.now) of.now) × IsLook store.now l × (own_table self.now of.now ≡ own_look l)) }
+        requires stands { Stands (states store.now) self.now }
+        requires owned { Owned (heap (states store.now) self.now) of.now }
+        requires ours { is_foreign (heap (states store.now) self.now) of.now ≡ false }
+        ensures { MatchOption result (shown (heap (states store.now) self.now) of.now ≡ None) (λ l. (looked (states store.now) l ≡ shown (heap (states store.now) self.now) of.now) × IsLook (states store.now) l × (own_table self.now of.now ≡ own_look l)) }
     {
         match of {
             Rv::Obj(object) => Some(self.look_at(store, object.slot)),
@@ -110,10 +111,10 @@ impl Scope {
 
     /// The object with a name.
     fn look_at(&self, store: &Store, name: u64) -> Look<'_>
-        requires stands { Stands store.now self.now }
-        requires name { name < (heap store.now self.now).next }
-        ensures shown { looked store.now result ≡ (heap store.now self.now).object name }
-        ensures look { IsLook store.now result }
+        requires stands { Stands (states store.now) self.now }
+        requires name { name < (heap (states store.now) self.now).next }
+        ensures shown { looked (states store.now) result ≡ (heap (states store.now) self.now).object name }
+        ensures look { IsLook (states store.now) result }
         ensures own { own_content self.now name ≡ own_look result }
     {
         if name >= self.drafts as u64 {

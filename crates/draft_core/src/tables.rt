@@ -1,4 +1,5 @@
 //! The objects that have a table of their own.
+ghost use Rattle.node_store.specs.Paged.{states};
 ghost use Rattle.std.specs.Prelude.{◌≡◌, ◌≢◌, ◌+◌, ◌-◌, ◌<◌, ◌≤◌, ℕ, List, IfSome, OnOk, OnErr, None, Some, length, get_or, slice_set, slice_index_or, vec_len, vec_capacity};
 ghost use Rattle.std.specs.BTreeMap.{get, btree_map_len};
 ghost use Rattle.std.specs.Ordering.{nat_cmp};
@@ -20,10 +21,10 @@ use std::collections::BTreeMap;
 impl Scope {
     /// Gives an object a table of its own: a draft that has none gets that of its node.
     pub(crate) fn open(&mut self, alloc: Global, store: &Store, name: u64) -> Result<(), AllocError>
-        requires stands { Stands store.now self.old }
-        requires name { name < (heap store.now self.old).next }
-        ensures heap { heap store.now self.new ≡ heap store.now self.old }
-        ensures stands { Stands store.now self.new }
+        requires stands { Stands (states store.now) self.old }
+        requires name { name < (heap (states store.now) self.old).next }
+        ensures heap { heap (states store.now) self.new ≡ heap (states store.now) self.old }
+        ensures stands { Stands (states store.now) self.new }
         ensures own { OnOk result (HasTable self.new name) }
         ensures room { SameRoom self.old self.new }
         ensures tables { slots self.new ≤ slots self.old + 1 }

@@ -1,4 +1,5 @@
 //! Calls that write one object: each makes at most that object's table.
+ghost use Rattle.node_store.specs.Paged.{states};
 ghost use Rattle.std.specs.Prelude.{◌≡◌, ◌≢◌, ◌<◌, ◌≤◌, ◌+◌, Some};
 ghost use Rattle.value_model.specs.declared.kind.Kind.TheVariants as kind;
 ghost use Rattle.run_heap.specs.Answers.{Does, Leaves};
@@ -32,12 +33,12 @@ impl Scope {
         key: &Key,
         value: Rv,
     ) -> Result<(), DraftFault>
-        requires stands { Stands store.now self.old }
-        requires owned { Owned (heap store.now self.old) of.now }
-        requires value { Owned (heap store.now self.old) value }
-        ensures done { Does result (heap store.now self.old) (heap store.now self.new) (spec.put_at key.now value (heap store.now self.old) of.now) }
-        ensures stands { Stands store.now self.new }
-        ensures grows { Grows (heap store.now self.old) (heap store.now self.new) }
+        requires stands { Stands (states store.now) self.old }
+        requires owned { Owned (heap (states store.now) self.old) of.now }
+        requires value { Owned (heap (states store.now) self.old) value }
+        ensures done { Does result (heap (states store.now) self.old) (heap (states store.now) self.new) (spec.put_at key.now value (heap (states store.now) self.old) of.now) }
+        ensures stands { Stands (states store.now) self.new }
+        ensures grows { Grows (heap (states store.now) self.old) (heap (states store.now) self.new) }
         ensures tables { slots self.new ≤ slots self.old + 1 }
     {
         let change = self.plan_put(alloc, store, of, key, value)?;
@@ -55,11 +56,11 @@ impl Scope {
         of: &Rv,
         key: &Key,
     ) -> Result<(), DraftFault>
-        requires stands { Stands store.now self.old }
-        requires owned { Owned (heap store.now self.old) of.now }
-        ensures done { Does result (heap store.now self.old) (heap store.now self.new) (spec.remove_at key.now (heap store.now self.old) of.now) }
-        ensures stands { Stands store.now self.new }
-        ensures grows { Grows (heap store.now self.old) (heap store.now self.new) }
+        requires stands { Stands (states store.now) self.old }
+        requires owned { Owned (heap (states store.now) self.old) of.now }
+        ensures done { Does result (heap (states store.now) self.old) (heap (states store.now) self.new) (spec.remove_at key.now (heap (states store.now) self.old) of.now) }
+        ensures stands { Stands (states store.now) self.new }
+        ensures grows { Grows (heap (states store.now) self.old) (heap (states store.now) self.new) }
         ensures tables { slots self.new ≤ slots self.old + 1 }
     {
         self.may_remove(store, of, key)?;
@@ -77,15 +78,15 @@ impl Scope {
         to: usize,
         items: &[Rv],
     ) -> Result<(), AllocError>
-        requires stands { Stands store.now self.old }
-        requires object { IsObject (heap store.now self.old) of.now }
-        requires list { spec.kind_of (heap store.now self.old) of.now ≡ Some kind.List }
+        requires stands { Stands (states store.now) self.old }
+        requires object { IsObject (heap (states store.now) self.old) of.now }
+        requires list { spec.kind_of (heap (states store.now) self.old) of.now ≡ Some kind.List }
         requires ordered { from ≤ to }
-        requires in_range { to ≤ spec.count (heap store.now self.old) of.now }
-        requires stored { AllStored (heap store.now self.old) items.now }
-        ensures done { Leaves result (heap store.now self.old) (heap store.now self.new) (spec.splice_at from to items.now (heap store.now self.old) of.now) }
-        ensures stands { Stands store.now self.new }
-        ensures grows { Grows (heap store.now self.old) (heap store.now self.new) }
+        requires in_range { to ≤ spec.count (heap (states store.now) self.old) of.now }
+        requires stored { AllStored (heap (states store.now) self.old) items.now }
+        ensures done { Leaves result (heap (states store.now) self.old) (heap (states store.now) self.new) (spec.splice_at from to items.now (heap (states store.now) self.old) of.now) }
+        ensures stands { Stands (states store.now) self.new }
+        ensures grows { Grows (heap (states store.now) self.old) (heap (states store.now) self.new) }
         ensures tables { slots self.new ≤ slots self.old + 1 }
     {
         self.change(alloc, store, of, Change::Splice(from, to, items))
@@ -100,13 +101,13 @@ impl Scope {
         key: &Key,
         value: Option<Rv>,
     ) -> Result<(), AllocError>
-        requires stands { Stands store.now self.old }
-        requires object { IsObject (heap store.now self.old) of.now }
-        requires keyed { spec.kind_of (heap store.now self.old) of.now ≢ Some kind.List }
-        requires stored { MayStand (heap store.now self.old) of.now key.now value }
-        ensures done { Leaves result (heap store.now self.old) (heap store.now self.new) (spec.set_key key.now value (heap store.now self.old) of.now) }
-        ensures stands { Stands store.now self.new }
-        ensures grows { Grows (heap store.now self.old) (heap store.now self.new) }
+        requires stands { Stands (states store.now) self.old }
+        requires object { IsObject (heap (states store.now) self.old) of.now }
+        requires keyed { spec.kind_of (heap (states store.now) self.old) of.now ≢ Some kind.List }
+        requires stored { MayStand (heap (states store.now) self.old) of.now key.now value }
+        ensures done { Leaves result (heap (states store.now) self.old) (heap (states store.now) self.new) (spec.set_key key.now value (heap (states store.now) self.old) of.now) }
+        ensures stands { Stands (states store.now) self.new }
+        ensures grows { Grows (heap (states store.now) self.old) (heap (states store.now) self.new) }
         ensures tables { slots self.new ≤ slots self.old + 1 }
     {
         match value {
@@ -120,11 +121,11 @@ impl Scope {
 
     /// Removes every entry of an object. After want of memory all is as before.
     pub fn empty(&mut self, alloc: Global, store: &Store, of: &Rv) -> Result<(), AllocError>
-        requires stands { Stands store.now self.old }
-        requires object { IsObject (heap store.now self.old) of.now }
-        ensures done { Leaves result (heap store.now self.old) (heap store.now self.new) (spec.empty (heap store.now self.old) of.now) }
-        ensures stands { Stands store.now self.new }
-        ensures grows { Grows (heap store.now self.old) (heap store.now self.new) }
+        requires stands { Stands (states store.now) self.old }
+        requires object { IsObject (heap (states store.now) self.old) of.now }
+        ensures done { Leaves result (heap (states store.now) self.old) (heap (states store.now) self.new) (spec.empty (heap (states store.now) self.old) of.now) }
+        ensures stands { Stands (states store.now) self.new }
+        ensures grows { Grows (heap (states store.now) self.old) (heap (states store.now) self.new) }
         ensures tables { slots self.new ≤ slots self.old + 1 }
     {
         self.change(alloc, store, of, Change::Clear)
@@ -139,10 +140,10 @@ impl Scope {
         key: &Key,
         value: Rv,
     ) -> Result<Change<'a>, DraftFault>
-        requires stands { Stands store.now self.now }
-        requires owned { Owned (heap store.now self.now) of.now }
-        requires value { Owned (heap store.now self.now) value }
-        ensures { Plans (heap store.now self.now) of.now result (spec.put_at key.now value (heap store.now self.now) of.now) }
+        requires stands { Stands (states store.now) self.now }
+        requires owned { Owned (heap (states store.now) self.now) of.now }
+        requires value { Owned (heap (states store.now) self.now) value }
+        ensures { Plans (heap (states store.now) self.now) of.now result (spec.put_at key.now value (heap (states store.now) self.now) of.now) }
     {
         if !self.owns(of) {
             return Err(DraftFault::Revoked);
@@ -158,9 +159,9 @@ impl Scope {
 
     /// Whether `remove` may be made, or its refusal.
     fn may_remove(&self, store: &Store, of: &Rv, key: &Key) -> Result<(), DraftFault>
-        requires stands { Stands store.now self.now }
-        requires owned { Owned (heap store.now self.now) of.now }
-        ensures { MayRemove (heap store.now self.now) of.now key.now result (spec.remove_at key.now (heap store.now self.now) of.now) }
+        requires stands { Stands (states store.now) self.now }
+        requires owned { Owned (heap (states store.now) self.now) of.now }
+        ensures { MayRemove (heap (states store.now) self.now) of.now key.now result (spec.remove_at key.now (heap (states store.now) self.now) of.now) }
     {
         if !self.owns(of) {
             return Err(DraftFault::Revoked);
@@ -179,13 +180,13 @@ impl Scope {
         of: &Rv,
         change: Change,
     ) -> Result<(), AllocError>
-        requires stands { Stands store.now self.old }
-        requires object { IsObject (heap store.now self.old) of.now }
-        requires may { MayChange change (table_of (heap store.now self.old) of.now) }
-        requires table { KeepsTable (heap store.now self.old) of.now (changed change) }
-        ensures done { Leaves result (heap store.now self.old) (heap store.now self.new) (rewrite (changed change.entry) (heap store.now self.old) of.now) }
-        ensures stands { Stands store.now self.new }
-        ensures grows { Grows (heap store.now self.old) (heap store.now self.new) }
+        requires stands { Stands (states store.now) self.old }
+        requires object { IsObject (heap (states store.now) self.old) of.now }
+        requires may { MayChange change (table_of (heap (states store.now) self.old) of.now) }
+        requires table { KeepsTable (heap (states store.now) self.old) of.now (changed change) }
+        ensures done { Leaves result (heap (states store.now) self.old) (heap (states store.now) self.new) (rewrite (changed change.entry) (heap (states store.now) self.old) of.now) }
+        ensures stands { Stands (states store.now) self.new }
+        ensures grows { Grows (heap (states store.now) self.old) (heap (states store.now) self.new) }
         ensures room { SameRoom self.old self.new }
         ensures tables { slots self.new ≤ slots self.old + 1 }
     {

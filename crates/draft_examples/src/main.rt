@@ -6,6 +6,7 @@
 //! primitive or a key as JSON, or an index. A space within a text is written `\u0020`.
 #![tactic(auto)]
 
+ghost use Rattle.node_store.specs.Paged.{states};
 ghost use Rattle.run_heap.specs.Sound.{AllOwned};
 ghost use Rattle.draft_core.specs.Seen.{heap, Stands};
 
@@ -21,10 +22,10 @@ mod writes;
 
 /// Makes the call that a line is, and says what it answers.
 fn answer(alloc: Global, run: &mut Run, line: &str) -> anyhow::Result<String>
-    requires stands { Stands run.old.store run.old.scope }
-    requires owned { AllOwned (heap run.old.store run.old.scope) run.old.values.items }
-    ensures stands { Stands run.new.store run.new.scope }
-    ensures owned { AllOwned (heap run.new.store run.new.scope) run.new.values.items }
+    requires stands { Stands (states run.old.store) run.old.scope }
+    requires owned { AllOwned (heap (states run.old.store) run.old.scope) run.old.values.items }
+    ensures stands { Stands (states run.new.store) run.new.scope }
+    ensures owned { AllOwned (heap (states run.new.store) run.new.scope) run.new.values.items }
 {
     let (word, text) = line.split_once(' ').unwrap_or((line, ""));
     reads::answer(alloc, run, word, text)

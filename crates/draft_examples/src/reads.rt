@@ -1,4 +1,5 @@
 //! Calls that read, and those that begin a run.
+ghost use Rattle.node_store.specs.Paged.{states};
 ghost use Rattle.run_heap.specs.Sound.{AllOwned};
 ghost use Rattle.draft_core.specs.Seen.{heap, Stands};
 
@@ -9,10 +10,10 @@ use std::alloc::Global;
 
 /// The answer to a call.
 pub fn answer(alloc: Global, run: &mut Run, word: &str, text: &str) -> anyhow::Result<String>
-    requires stands { Stands run.old.store run.old.scope }
-    requires owned { AllOwned (heap run.old.store run.old.scope) run.old.values.items }
-    ensures stands { Stands run.new.store run.new.scope }
-    ensures owned { AllOwned (heap run.new.store run.new.scope) run.new.values.items }
+    requires stands { Stands (states run.old.store) run.old.scope }
+    requires owned { AllOwned (heap (states run.old.store) run.old.scope) run.old.values.items }
+    ensures stands { Stands (states run.new.store) run.new.scope }
+    ensures owned { AllOwned (heap (states run.new.store) run.new.scope) run.new.values.items }
 {
     match word {
         "state" => begin(alloc, run, text),
@@ -31,10 +32,10 @@ pub fn answer(alloc: Global, run: &mut Run, word: &str, text: &str) -> anyhow::R
 
 /// A run on a state.
 fn begin(alloc: Global, run: &mut Run, text: &str) -> anyhow::Result<String>
-    requires stands { Stands run.old.store run.old.scope }
-    requires owned { AllOwned (heap run.old.store run.old.scope) run.old.values.items }
-    ensures stands { Stands run.new.store run.new.scope }
-    ensures owned { AllOwned (heap run.new.store run.new.scope) run.new.values.items }
+    requires stands { Stands (states run.old.store) run.old.scope }
+    requires owned { AllOwned (heap (states run.old.store) run.old.scope) run.old.values.items }
+    ensures stands { Stands (states run.new.store) run.new.scope }
+    ensures owned { AllOwned (heap (states run.new.store) run.new.scope) run.new.values.items }
 {
     *run = Run::of_state(alloc, text)?;
     Ok(String::from_str(alloc, "@0")?)
@@ -42,27 +43,27 @@ fn begin(alloc: Global, run: &mut Run, text: &str) -> anyhow::Result<String>
 
 /// A run on a list that holds one object twice.
 fn twins(alloc: Global, run: &mut Run) -> anyhow::Result<String>
-    requires stands { Stands run.old.store run.old.scope }
-    requires owned { AllOwned (heap run.old.store run.old.scope) run.old.values.items }
-    ensures stands { Stands run.new.store run.new.scope }
-    ensures owned { AllOwned (heap run.new.store run.new.scope) run.new.values.items }
+    requires stands { Stands (states run.old.store) run.old.scope }
+    requires owned { AllOwned (heap (states run.old.store) run.old.scope) run.old.values.items }
+    ensures stands { Stands (states run.new.store) run.new.scope }
+    ensures owned { AllOwned (heap (states run.new.store) run.new.scope) run.new.values.items }
 {
     *run = Run::of_twins(alloc)?;
     Ok(String::from_str(alloc, "@0")?)
 }
 
 fn get(alloc: Global, run: &mut Run, text: &str) -> anyhow::Result<String>
-    requires stands { Stands run.old.store run.old.scope }
-    requires owned { AllOwned (heap run.old.store run.old.scope) run.old.values.items }
-    ensures stands { Stands run.new.store run.new.scope }
-    ensures owned { AllOwned (heap run.new.store run.new.scope) run.new.values.items }
+    requires stands { Stands (states run.old.store) run.old.scope }
+    requires owned { AllOwned (heap (states run.old.store) run.old.scope) run.old.values.items }
+    ensures stands { Stands (states run.new.store) run.new.scope }
+    ensures owned { AllOwned (heap (states run.new.store) run.new.scope) run.new.values.items }
 {
     let (of, key) = keyed(alloc, text)?;
     Ok(run.get(alloc, &of, &key)?)
 }
 
 fn same(alloc: Global, run: &Run, text: &str) -> anyhow::Result<String>
-    requires { AllOwned (heap run.now.store run.now.scope) run.now.values.items }
+    requires { AllOwned (heap (states run.now.store) run.now.scope) run.now.values.items }
 {
     let (a, b) = two(alloc, text)?;
     said(alloc, run.same(alloc, &a, &b)?)

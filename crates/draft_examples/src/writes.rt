@@ -1,4 +1,5 @@
 //! Calls that write one object.
+ghost use Rattle.node_store.specs.Paged.{states};
 ghost use Rattle.run_heap.specs.Sound.{AllOwned};
 ghost use Rattle.draft_core.specs.Seen.{heap, Stands};
 
@@ -9,10 +10,10 @@ use std::alloc::Global;
 
 /// The answer to a call.
 pub fn answer(alloc: Global, run: &mut Run, word: &str, text: &str) -> anyhow::Result<String>
-    requires stands { Stands run.old.store run.old.scope }
-    requires owned { AllOwned (heap run.old.store run.old.scope) run.old.values.items }
-    ensures stands { Stands run.new.store run.new.scope }
-    ensures owned { AllOwned (heap run.new.store run.new.scope) run.new.values.items }
+    requires stands { Stands (states run.old.store) run.old.scope }
+    requires owned { AllOwned (heap (states run.old.store) run.old.scope) run.old.values.items }
+    ensures stands { Stands (states run.new.store) run.new.scope }
+    ensures owned { AllOwned (heap (states run.new.store) run.new.scope) run.new.values.items }
 {
     match word {
         "put" => put(alloc, run, text),
@@ -26,10 +27,10 @@ pub fn answer(alloc: Global, run: &mut Run, word: &str, text: &str) -> anyhow::R
 }
 
 fn put(alloc: Global, run: &mut Run, text: &str) -> anyhow::Result<String>
-    requires stands { Stands run.old.store run.old.scope }
-    requires owned { AllOwned (heap run.old.store run.old.scope) run.old.values.items }
-    ensures stands { Stands run.new.store run.new.scope }
-    ensures owned { AllOwned (heap run.new.store run.new.scope) run.new.values.items }
+    requires stands { Stands (states run.old.store) run.old.scope }
+    requires owned { AllOwned (heap (states run.old.store) run.old.scope) run.old.values.items }
+    ensures stands { Stands (states run.new.store) run.new.scope }
+    ensures owned { AllOwned (heap (states run.new.store) run.new.scope) run.new.values.items }
 {
     let (of, key, value) = entry(alloc, text)?;
     let said = run.put(alloc, &of, &key, &value)?;
@@ -37,10 +38,10 @@ fn put(alloc: Global, run: &mut Run, text: &str) -> anyhow::Result<String>
 }
 
 fn remove(alloc: Global, run: &mut Run, text: &str) -> anyhow::Result<String>
-    requires stands { Stands run.old.store run.old.scope }
-    requires owned { AllOwned (heap run.old.store run.old.scope) run.old.values.items }
-    ensures stands { Stands run.new.store run.new.scope }
-    ensures owned { AllOwned (heap run.new.store run.new.scope) run.new.values.items }
+    requires stands { Stands (states run.old.store) run.old.scope }
+    requires owned { AllOwned (heap (states run.old.store) run.old.scope) run.old.values.items }
+    ensures stands { Stands (states run.new.store) run.new.scope }
+    ensures owned { AllOwned (heap (states run.new.store) run.new.scope) run.new.values.items }
 {
     let (of, key) = keyed(alloc, text)?;
     let said = run.remove(alloc, &of, &key)?;
@@ -48,10 +49,10 @@ fn remove(alloc: Global, run: &mut Run, text: &str) -> anyhow::Result<String>
 }
 
 fn splice_at(alloc: Global, run: &mut Run, text: &str) -> anyhow::Result<String>
-    requires stands { Stands run.old.store run.old.scope }
-    requires owned { AllOwned (heap run.old.store run.old.scope) run.old.values.items }
-    ensures stands { Stands run.new.store run.new.scope }
-    ensures owned { AllOwned (heap run.new.store run.new.scope) run.new.values.items }
+    requires stands { Stands (states run.old.store) run.old.scope }
+    requires owned { AllOwned (heap (states run.old.store) run.old.scope) run.old.values.items }
+    ensures stands { Stands (states run.new.store) run.new.scope }
+    ensures owned { AllOwned (heap (states run.new.store) run.new.scope) run.new.values.items }
 {
     let splice = splice_of(alloc, text)?;
     let said = run.splice_at(alloc, &splice.of, splice.from, splice.to, &splice.items)?;
@@ -59,10 +60,10 @@ fn splice_at(alloc: Global, run: &mut Run, text: &str) -> anyhow::Result<String>
 }
 
 fn set_key(alloc: Global, run: &mut Run, text: &str) -> anyhow::Result<String>
-    requires stands { Stands run.old.store run.old.scope }
-    requires owned { AllOwned (heap run.old.store run.old.scope) run.old.values.items }
-    ensures stands { Stands run.new.store run.new.scope }
-    ensures owned { AllOwned (heap run.new.store run.new.scope) run.new.values.items }
+    requires stands { Stands (states run.old.store) run.old.scope }
+    requires owned { AllOwned (heap (states run.old.store) run.old.scope) run.old.values.items }
+    ensures stands { Stands (states run.new.store) run.new.scope }
+    ensures owned { AllOwned (heap (states run.new.store) run.new.scope) run.new.values.items }
 {
     let (of, key, value) = entry(alloc, text)?;
     let said = run.set_key(alloc, &of, &key, &value)?;
@@ -70,10 +71,10 @@ fn set_key(alloc: Global, run: &mut Run, text: &str) -> anyhow::Result<String>
 }
 
 fn unset_key(alloc: Global, run: &mut Run, text: &str) -> anyhow::Result<String>
-    requires stands { Stands run.old.store run.old.scope }
-    requires owned { AllOwned (heap run.old.store run.old.scope) run.old.values.items }
-    ensures stands { Stands run.new.store run.new.scope }
-    ensures owned { AllOwned (heap run.new.store run.new.scope) run.new.values.items }
+    requires stands { Stands (states run.old.store) run.old.scope }
+    requires owned { AllOwned (heap (states run.old.store) run.old.scope) run.old.values.items }
+    ensures stands { Stands (states run.new.store) run.new.scope }
+    ensures owned { AllOwned (heap (states run.new.store) run.new.scope) run.new.values.items }
 {
     let (of, key) = keyed(alloc, text)?;
     let said = run.unset_key(alloc, &of, &key)?;
@@ -81,10 +82,10 @@ fn unset_key(alloc: Global, run: &mut Run, text: &str) -> anyhow::Result<String>
 }
 
 fn empty(alloc: Global, run: &mut Run, text: &str) -> anyhow::Result<String>
-    requires stands { Stands run.old.store run.old.scope }
-    requires owned { AllOwned (heap run.old.store run.old.scope) run.old.values.items }
-    ensures stands { Stands run.new.store run.new.scope }
-    ensures owned { AllOwned (heap run.new.store run.new.scope) run.new.values.items }
+    requires stands { Stands (states run.old.store) run.old.scope }
+    requires owned { AllOwned (heap (states run.old.store) run.old.scope) run.old.values.items }
+    ensures stands { Stands (states run.new.store) run.new.scope }
+    ensures owned { AllOwned (heap (states run.new.store) run.new.scope) run.new.values.items }
 {
     let said = run.empty(alloc, &one(alloc, text)?)?;
     Ok(String::from_str(alloc, said)?)

@@ -15,7 +15,7 @@ use Rattle.numbered.specs.Tree.{Tree, Branches, prim, node, none, branch, childr
 use Rattle.run_heap.specs.declared.value.Given.TheVariants as given
 use Rattle.node_store.specs.Nodes.{cell_of}
 use Rattle.node_store.proofs.Tables.{cell_again}
-use Rattle.node_store.specs.declared.node.Cell.TheVariants as cell
+use Rattle.page_tables.specs.declared.cell.Cell.TheVariants as cell
 use Rattle.run_heap.specs.declared.value.Rv.{Rv}
 use Rattle.run_heap.specs.declared.value.Rv.TheVariants.{Undefined, Prim, Obj, Frozen}
 use Rattle.run_heap.specs.declared.content.Content.{Content}

@@ -1,4 +1,5 @@
 //! The refusals of the calls, in their order.
+ghost use Rattle.node_store.specs.Paged.{states};
 ghost use Rattle.std.specs.Prelude.{◌≡◌, [], ◌∷◌, false};
 ghost use Rattle.run_heap.specs.Heap.{is_foreign};
 ghost use Rattle.run_heap.specs.Operations as spec;
@@ -36,9 +37,9 @@ pub(crate) fn check_read(
     of: &Rv,
     takes: Takes,
 ) -> Result<(), DraftFault>
-    requires stands { Stands store.now scope.now }
-    requires owned { Owned (heap store.now scope.now) of.now }
-    ensures { result ≡ checked (read_causes (taken takes) (heap store.now scope.now) of.now []) }
+    requires stands { Stands (states store.now) scope.now }
+    requires owned { Owned (heap (states store.now) scope.now) of.now }
+    ensures { result ≡ checked (read_causes (taken takes) (heap (states store.now) scope.now) of.now []) }
 {
     if !scope.owns(of) {
         return Err(DraftFault::Revoked);
@@ -54,9 +55,9 @@ pub(crate) fn check_read_by(
     key: &Rv,
     takes: Takes,
 ) -> Result<(), DraftFault>
-    requires stands { Stands store.now scope.now }
-    requires owned { Owned (heap store.now scope.now) of.now }
-    ensures { result ≡ checked (read_causes (taken takes) (heap store.now scope.now) of.now (key.now ∷ [])) }
+    requires stands { Stands (states store.now) scope.now }
+    requires owned { Owned (heap (states store.now) scope.now) of.now }
+    ensures { result ≡ checked (read_causes (taken takes) (heap (states store.now) scope.now) of.now (key.now ∷ [])) }
 {
     if !scope.owns(key) {
         return Err(DraftFault::Revoked);
@@ -71,9 +72,9 @@ pub(crate) fn check_write(
     of: &Rv,
     takes: Takes,
 ) -> Result<(), DraftFault>
-    requires stands { Stands store.now scope.now }
-    requires owned { Owned (heap store.now scope.now) of.now }
-    ensures { result ≡ checked (write_causes (taken takes) (heap store.now scope.now) of.now []) }
+    requires stands { Stands (states store.now) scope.now }
+    requires owned { Owned (heap (states store.now) scope.now) of.now }
+    ensures { result ≡ checked (write_causes (taken takes) (heap (states store.now) scope.now) of.now []) }
 {
     check_read(scope, store, of, takes)?;
     if of.is_frozen() {
@@ -90,9 +91,9 @@ pub(crate) fn check_write_by(
     key: &Rv,
     takes: Takes,
 ) -> Result<(), DraftFault>
-    requires stands { Stands store.now scope.now }
-    requires owned { Owned (heap store.now scope.now) of.now }
-    ensures { result ≡ checked (write_causes (taken takes) (heap store.now scope.now) of.now (key.now ∷ [])) }
+    requires stands { Stands (states store.now) scope.now }
+    requires owned { Owned (heap (states store.now) scope.now) of.now }
+    ensures { result ≡ checked (write_causes (taken takes) (heap (states store.now) scope.now) of.now (key.now ∷ [])) }
 {
     if !scope.owns(key) {
         return Err(DraftFault::Revoked);
@@ -107,9 +108,9 @@ pub(crate) fn check_adding(
     of: &Rv,
     member: &Rv,
 ) -> Result<(), DraftFault>
-    requires stands { Stands store.now scope.now }
-    requires owned { Owned (heap store.now scope.now) of.now }
-    ensures { result ≡ checked (adding_causes (heap store.now scope.now) of.now member.now) }
+    requires stands { Stands (states store.now) scope.now }
+    requires owned { Owned (heap (states store.now) scope.now) of.now }
+    ensures { result ≡ checked (adding_causes (heap (states store.now) scope.now) of.now member.now) }
 {
     check_write_by(scope, store, of, member, Takes::Sets)?;
     if is_long(member) {
@@ -126,9 +127,9 @@ pub(crate) fn check_setting(
     key: &Rv,
     value: &Rv,
 ) -> Result<(), DraftFault>
-    requires stands { Stands store.now scope.now }
-    requires owned { Owned (heap store.now scope.now) of.now }
-    ensures { result ≡ checked (setting_causes (heap store.now scope.now) of.now key.now value.now) }
+    requires stands { Stands (states store.now) scope.now }
+    requires owned { Owned (heap (states store.now) scope.now) of.now }
+    ensures { result ≡ checked (setting_causes (heap (states store.now) scope.now) of.now key.now value.now) }
 {
     if !scope.owns(value) {
         return Err(DraftFault::Revoked);
@@ -152,10 +153,10 @@ fn check_entry(key: &Rv, value: &Rv) -> Result<(), DraftFault>
 
 /// `TypeMismatch`.
 fn check_kind(scope: &Scope, store: &Store, of: &Rv, takes: Takes) -> Result<(), DraftFault>
-    requires stands { Stands store.now scope.now }
-    requires owned { Owned (heap store.now scope.now) of.now }
-    requires ours { is_foreign (heap store.now scope.now) of.now ≡ false }
-    ensures { result ≡ checked (kind_causes (taken takes) (heap store.now scope.now) of.now) }
+    requires stands { Stands (states store.now) scope.now }
+    requires owned { Owned (heap (states store.now) scope.now) of.now }
+    requires ours { is_foreign (heap (states store.now) scope.now) of.now ≡ false }
+    ensures { result ≡ checked (kind_causes (taken takes) (heap (states store.now) scope.now) of.now) }
 {
     match scope.kind_of(store, of) {
         Some(kind) => {

@@ -1,4 +1,5 @@
 //! Calls by a key, alike for Maps and Sets.
+ghost use Rattle.node_store.specs.Paged.{states};
 ghost use Rattle.std.specs.Prelude.{◌≡◌, ◌≢◌, ◌≤◌, ◌+◌, ◌∷◌, [], IfOk, Some, None};
 ghost use Rattle.std.specs.FinMap.Entries.{find};
 ghost use Rattle.value_model.specs.Order.{key_cmp};
@@ -26,11 +27,11 @@ pub(crate) fn value_of(
     of: &Rv,
     key: &Key,
 ) -> Result<Rv, AllocError>
-    requires stands { Stands store.now scope.old }
-    requires container { IsContainer (heap store.now scope.old) of.now }
-    requires keyed { spec.kind_of (heap store.now scope.old) of.now ≢ Some kind.List }
-    ensures value { IfOk result (λ v. v ≡ or_undefined (find key_cmp key.now (table_of (heap store.now scope.old) of.now))) }
-    ensures fits { IfOk result (λ v. Fits (heap store.now scope.old) v) }
+    requires stands { Stands (states store.now) scope.old }
+    requires container { IsContainer (heap (states store.now) scope.old) of.now }
+    requires keyed { spec.kind_of (heap (states store.now) scope.old) of.now ≢ Some kind.List }
+    ensures value { IfOk result (λ v. v ≡ or_undefined (find key_cmp key.now (table_of (heap (states store.now) scope.old) of.now))) }
+    ensures fits { IfOk result (λ v. Fits (heap (states store.now) scope.old) v) }
     ensures same { scope.new ≡ scope.old }
 {
     match scope.find(store, of, key) {
@@ -41,10 +42,10 @@ pub(crate) fn value_of(
 
 /// Whether there is an entry of the key.
 fn has(scope: &Scope, store: &Store, of: &Rv, key: &Key) -> bool
-    requires stands { Stands store.now scope.now }
-    requires container { IsContainer (heap store.now scope.now) of.now }
-    requires keyed { spec.kind_of (heap store.now scope.now) of.now ≢ Some kind.List }
-    ensures { result ≡ meaning.has key.now (table_of (heap store.now scope.now) of.now) }
+    requires stands { Stands (states store.now) scope.now }
+    requires container { IsContainer (heap (states store.now) scope.now) of.now }
+    requires keyed { spec.kind_of (heap (states store.now) scope.now) of.now ≢ Some kind.List }
+    ensures { result ≡ meaning.has key.now (table_of (heap (states store.now) scope.now) of.now) }
 {
     match scope.find(store, of, key) {
         Some(_) => true,
@@ -60,10 +61,10 @@ pub(crate) fn has_by(
     key: &Rv,
     takes: Takes,
 ) -> Result<bool, DraftFault>
-    requires stands { Stands store.now scope.now }
-    requires owned { Owned (heap store.now scope.now) of.now }
+    requires stands { Stands (states store.now) scope.now }
+    requires owned { Owned (heap (states store.now) scope.now) of.now }
     requires keyed { takes ≢ Takes.Both }
-    ensures { result ≡ read (of_kind (taken takes) (is_there key.now)) (heap store.now scope.now) of.now (key.now ∷ []) }
+    ensures { result ≡ read (of_kind (taken takes) (is_there key.now)) (heap (states store.now) scope.now) of.now (key.now ∷ []) }
 {
     check_read_by(scope, store, of, key, takes)?;
     match key {
@@ -81,11 +82,11 @@ pub(crate) fn delete(
     key: &Rv,
     takes: Takes,
 ) -> Result<bool, DraftFault>
-    requires stands { Stands store.now scope.old }
-    requires owned { Owned (heap store.now scope.old) of.now }
-    ensures done { Does result (heap store.now scope.old) (heap store.now scope.new) (edited (deleting (taken takes) key.now) (heap store.now scope.old) of.now (key.now ∷ [])) }
-    ensures stands { Stands store.now scope.new }
-    ensures grows { Grows (heap store.now scope.old) (heap store.now scope.new) }
+    requires stands { Stands (states store.now) scope.old }
+    requires owned { Owned (heap (states store.now) scope.old) of.now }
+    ensures done { Does result (heap (states store.now) scope.old) (heap (states store.now) scope.new) (edited (deleting (taken takes) key.now) (heap (states store.now) scope.old) of.now (key.now ∷ [])) }
+    ensures stands { Stands (states store.now) scope.new }
+    ensures grows { Grows (heap (states store.now) scope.old) (heap (states store.now) scope.new) }
     ensures tables { slots scope.new ≤ slots scope.old + 1 }
 {
     check_write_by(scope, store, of, key, takes)?;
@@ -102,12 +103,12 @@ fn delete_key(
     of: &Rv,
     key: &Key,
 ) -> Result<bool, AllocError>
-    requires stands { Stands store.now scope.old }
-    requires object { IsObject (heap store.now scope.old) of.now }
-    requires keyed { spec.kind_of (heap store.now scope.old) of.now ≢ Some kind.List }
-    ensures done { Makes result (heap store.now scope.old) (heap store.now scope.new) (spec.set_key key.now None (heap store.now scope.old) of.now) (meaning.has key.now (table_of (heap store.now scope.old) of.now)) }
-    ensures stands { Stands store.now scope.new }
-    ensures grows { Grows (heap store.now scope.old) (heap store.now scope.new) }
+    requires stands { Stands (states store.now) scope.old }
+    requires object { IsObject (heap (states store.now) scope.old) of.now }
+    requires keyed { spec.kind_of (heap (states store.now) scope.old) of.now ≢ Some kind.List }
+    ensures done { Makes result (heap (states store.now) scope.old) (heap (states store.now) scope.new) (spec.set_key key.now None (heap (states store.now) scope.old) of.now) (meaning.has key.now (table_of (heap (states store.now) scope.old) of.now)) }
+    ensures stands { Stands (states store.now) scope.new }
+    ensures grows { Grows (heap (states store.now) scope.old) (heap (states store.now) scope.new) }
     ensures tables { slots scope.new ≤ slots scope.old + 1 }
 {
     let found = has(scope, store, of, key);
@@ -123,11 +124,11 @@ pub(crate) fn clear(
     of: &Rv,
     takes: Takes,
 ) -> Result<(), DraftFault>
-    requires stands { Stands store.now scope.old }
-    requires owned { Owned (heap store.now scope.old) of.now }
-    ensures done { Does result (heap store.now scope.old) (heap store.now scope.new) (edited (clearing (taken takes)) (heap store.now scope.old) of.now []) }
-    ensures stands { Stands store.now scope.new }
-    ensures grows { Grows (heap store.now scope.old) (heap store.now scope.new) }
+    requires stands { Stands (states store.now) scope.old }
+    requires owned { Owned (heap (states store.now) scope.old) of.now }
+    ensures done { Does result (heap (states store.now) scope.old) (heap (states store.now) scope.new) (edited (clearing (taken takes)) (heap (states store.now) scope.old) of.now []) }
+    ensures stands { Stands (states store.now) scope.new }
+    ensures grows { Grows (heap (states store.now) scope.old) (heap (states store.now) scope.new) }
     ensures tables { slots scope.new ≤ slots scope.old + 1 }
 {
     check_write(scope, store, of, takes)?;

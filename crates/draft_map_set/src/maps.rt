@@ -1,4 +1,5 @@
 //! The calls on Maps.
+ghost use Rattle.node_store.specs.Paged.{states};
 ghost use Rattle.std.specs.Prelude.{◌≡◌, ◌≤◌, ◌+◌, List, IfOk};
 ghost use Rattle.numbered.specs.Tree.{Tree};
 ghost use Rattle.run_heap.specs.Answers.{Answers, Does, Makes};
@@ -23,10 +24,10 @@ pub fn map_get(
     of: &Rv,
     key: &Rv,
 ) -> Result<Rv, DraftFault>
-    requires stands { Stands store.now scope.old }
-    requires owned { Owned (heap store.now scope.old) of.now }
-    ensures answer { Answers result (meaning.map_get key.now (heap store.now scope.old) of.now) }
-    ensures fits { IfOk result (λ v. Fits (heap store.now scope.old) v) }
+    requires stands { Stands (states store.now) scope.old }
+    requires owned { Owned (heap (states store.now) scope.old) of.now }
+    ensures answer { Answers result (meaning.map_get key.now (heap (states store.now) scope.old) of.now) }
+    ensures fits { IfOk result (λ v. Fits (heap (states store.now) scope.old) v) }
     ensures same { scope.new ≡ scope.old }
 {
     check_read_by(scope, store, of, key, Takes::Maps)?;
@@ -45,9 +46,9 @@ pub fn map_has(
     of: &Rv,
     key: &Rv,
 ) -> Result<bool, DraftFault>
-    requires stands { Stands store.now scope.old }
-    requires owned { Owned (heap store.now scope.old) of.now }
-    ensures answer { result ≡ meaning.map_has key.now (heap store.now scope.old) of.now }
+    requires stands { Stands (states store.now) scope.old }
+    requires owned { Owned (heap (states store.now) scope.old) of.now }
+    ensures answer { result ≡ meaning.map_has key.now (heap (states store.now) scope.old) of.now }
     ensures same { scope.new ≡ scope.old }
 {
     has_by(scope, store, of, key, Takes::Maps)
@@ -64,12 +65,12 @@ pub fn map_set(
     key: &Rv,
     value: Rv,
 ) -> Result<(), DraftFault>
-    requires stands { Stands store.now scope.old }
-    requires owned { Owned (heap store.now scope.old) of.now }
-    requires value { Owned (heap store.now scope.old) value }
-    ensures done { Does result (heap store.now scope.old) (heap store.now scope.new) (meaning.map_set key.now value (heap store.now scope.old) of.now) }
-    ensures stands { Stands store.now scope.new }
-    ensures grows { Grows (heap store.now scope.old) (heap store.now scope.new) }
+    requires stands { Stands (states store.now) scope.old }
+    requires owned { Owned (heap (states store.now) scope.old) of.now }
+    requires value { Owned (heap (states store.now) scope.old) value }
+    ensures done { Does result (heap (states store.now) scope.old) (heap (states store.now) scope.new) (meaning.map_set key.now value (heap (states store.now) scope.old) of.now) }
+    ensures stands { Stands (states store.now) scope.new }
+    ensures grows { Grows (heap (states store.now) scope.old) (heap (states store.now) scope.new) }
     ensures tables { slots scope.new ≤ slots scope.old + 1 }
 {
     check_setting(scope, store, of, key, &value)?;
@@ -89,11 +90,11 @@ pub fn map_delete(
     of: &Rv,
     key: &Rv,
 ) -> Result<bool, DraftFault>
-    requires stands { Stands store.now scope.old }
-    requires owned { Owned (heap store.now scope.old) of.now }
-    ensures done { Does result (heap store.now scope.old) (heap store.now scope.new) (meaning.map_delete key.now (heap store.now scope.old) of.now) }
-    ensures stands { Stands store.now scope.new }
-    ensures grows { Grows (heap store.now scope.old) (heap store.now scope.new) }
+    requires stands { Stands (states store.now) scope.old }
+    requires owned { Owned (heap (states store.now) scope.old) of.now }
+    ensures done { Does result (heap (states store.now) scope.old) (heap (states store.now) scope.new) (meaning.map_delete key.now (heap (states store.now) scope.old) of.now) }
+    ensures stands { Stands (states store.now) scope.new }
+    ensures grows { Grows (heap (states store.now) scope.old) (heap (states store.now) scope.new) }
     ensures tables { slots scope.new ≤ slots scope.old + 1 }
 {
     delete(alloc, scope, store, of, key, Takes::Maps)
@@ -103,11 +104,11 @@ pub fn map_delete(
 /// refusal all is as before.
 /// `Revoked` where an operand is a reference of another scope. `Memory` where memory runs out.
 pub fn map_clear(alloc: Global, scope: &mut Scope, store: &Store, of: &Rv) -> Result<(), DraftFault>
-    requires stands { Stands store.now scope.old }
-    requires owned { Owned (heap store.now scope.old) of.now }
-    ensures done { Does result (heap store.now scope.old) (heap store.now scope.new) (meaning.map_clear (heap store.now scope.old) of.now) }
-    ensures stands { Stands store.now scope.new }
-    ensures grows { Grows (heap store.now scope.old) (heap store.now scope.new) }
+    requires stands { Stands (states store.now) scope.old }
+    requires owned { Owned (heap (states store.now) scope.old) of.now }
+    ensures done { Does result (heap (states store.now) scope.old) (heap (states store.now) scope.new) (meaning.map_clear (heap (states store.now) scope.old) of.now) }
+    ensures stands { Stands (states store.now) scope.new }
+    ensures grows { Grows (heap (states store.now) scope.old) (heap (states store.now) scope.new) }
     ensures tables { slots scope.new ≤ slots scope.old + 1 }
 {
     clear(alloc, scope, store, of, Takes::Maps)

@@ -1,4 +1,5 @@
 //! The calls on a Map or a Set alike.
+ghost use Rattle.node_store.specs.Paged.{states};
 ghost use Rattle.std.specs.Prelude.{◌≡◌, ◌≢◌, ◌≤◌, ◌+◌, IfOk, Some, map};
 ghost use Rattle.value_model.specs.declared.kind.Kind.TheVariants as kind;
 ghost use Rattle.run_heap.specs.declared.value.Rv.TheVariants.{Prim};
@@ -18,9 +19,9 @@ use std::alloc::{AllocError, Global};
 /// How many entries a Map has, or members a Set. `TypeMismatch` for what is neither. It takes no memory.
 /// `Revoked` where an operand is a reference of another scope.
 pub fn size(scope: &Scope, store: &Store, of: &Rv) -> Result<u64, DraftFault>
-    requires stands { Stands store.now scope.now }
-    requires owned { Owned (heap store.now scope.now) of.now }
-    ensures { result ≡ meaning.size (heap store.now scope.now) of.now }
+    requires stands { Stands (states store.now) scope.now }
+    requires owned { Owned (heap (states store.now) scope.now) of.now }
+    ensures { result ≡ meaning.size (heap (states store.now) scope.now) of.now }
 {
     check_read(scope, store, of, Takes::Both)?;
     Ok(scope.count(store, of) as u64)
@@ -35,12 +36,12 @@ pub fn member_keys(
     store: &Store,
     of: &Rv,
 ) -> Result<Rv, DraftFault>
-    requires stands { Stands store.now scope.old }
-    requires owned { Owned (heap store.now scope.old) of.now }
-    ensures done { Does result (heap store.now scope.old) (heap store.now scope.new) (meaning.member_keys (heap store.now scope.old) of.now) }
-    ensures stands { Stands store.now scope.new }
-    ensures grows { Grows (heap store.now scope.old) (heap store.now scope.new) }
-    ensures fits { IfOk result (λ v. Fits (heap store.now scope.new) v) }
+    requires stands { Stands (states store.now) scope.old }
+    requires owned { Owned (heap (states store.now) scope.old) of.now }
+    ensures done { Does result (heap (states store.now) scope.old) (heap (states store.now) scope.new) (meaning.member_keys (heap (states store.now) scope.old) of.now) }
+    ensures stands { Stands (states store.now) scope.new }
+    ensures grows { Grows (heap (states store.now) scope.old) (heap (states store.now) scope.new) }
+    ensures fits { IfOk result (λ v. Fits (heap (states store.now) scope.new) v) }
     ensures tables { slots scope.new ≤ slots scope.old + 1 }
 {
     check_read(scope, store, of, Takes::Both)?;
@@ -49,13 +50,13 @@ pub fn member_keys(
 
 /// A fresh list of the keys of a container that has keys.
 fn list_keys(alloc: Global, scope: &mut Scope, store: &Store, of: &Rv) -> Result<Rv, AllocError>
-    requires stands { Stands store.now scope.old }
-    requires container { IsContainer (heap store.now scope.old) of.now }
-    requires keyed { spec.kind_of (heap store.now scope.old) of.now ≢ Some kind.List }
-    ensures done { Makes result (heap store.now scope.old) (heap store.now scope.new) (with_object (fresh kind.List (listed (keys_of (table_of (heap store.now scope.old) of.now)))) (heap store.now scope.old)) (next_object (heap store.now scope.old)) }
-    ensures stands { Stands store.now scope.new }
-    ensures grows { Grows (heap store.now scope.old) (heap store.now scope.new) }
-    ensures fits { IfOk result (λ v. Fits (heap store.now scope.new) v) }
+    requires stands { Stands (states store.now) scope.old }
+    requires container { IsContainer (heap (states store.now) scope.old) of.now }
+    requires keyed { spec.kind_of (heap (states store.now) scope.old) of.now ≢ Some kind.List }
+    ensures done { Makes result (heap (states store.now) scope.old) (heap (states store.now) scope.new) (with_object (fresh kind.List (listed (keys_of (table_of (heap (states store.now) scope.old) of.now)))) (heap (states store.now) scope.old)) (next_object (heap (states store.now) scope.old)) }
+    ensures stands { Stands (states store.now) scope.new }
+    ensures grows { Grows (heap (states store.now) scope.old) (heap (states store.now) scope.new) }
+    ensures fits { IfOk result (λ v. Fits (heap (states store.now) scope.new) v) }
     ensures tables { slots scope.new ≤ slots scope.old + 1 }
 {
     let keys = key_list(alloc, scope, store, of)?;
@@ -64,10 +65,10 @@ fn list_keys(alloc: Global, scope: &mut Scope, store: &Store, of: &Rv) -> Result
 
 /// The keys of a container that has keys.
 fn key_list(alloc: Global, scope: &Scope, store: &Store, of: &Rv) -> Result<Vec<Rv>, AllocError>
-    requires stands { Stands store.now scope.now }
-    requires container { IsContainer (heap store.now scope.now) of.now }
-    requires keyed { spec.kind_of (heap store.now scope.now) of.now ≢ Some kind.List }
-    ensures { IfOk result (λ v. v.items ≡ map Prim (keys_of (table_of (heap store.now scope.now) of.now))) }
+    requires stands { Stands (states store.now) scope.now }
+    requires container { IsContainer (heap (states store.now) scope.now) of.now }
+    requires keyed { spec.kind_of (heap (states store.now) scope.now) of.now ≢ Some kind.List }
+    ensures { IfOk result (λ v. v.items ≡ map Prim (keys_of (table_of (heap (states store.now) scope.now) of.now))) }
 {
     let mut out = Vec::new(alloc);
     for i in 0..scope.count(store, of) {

@@ -1,4 +1,5 @@
 //! The calls on Sets.
+ghost use Rattle.node_store.specs.Paged.{states};
 ghost use Rattle.std.specs.Prelude.{◌≡◌, ◌≤◌, ◌+◌, IfOk, List};
 ghost use Rattle.numbered.specs.Tree.{Tree};
 ghost use Rattle.run_heap.specs.Answers.{Does, Makes};
@@ -24,11 +25,11 @@ pub fn set_add(
     of: &Rv,
     member: &Rv,
 ) -> Result<(), DraftFault>
-    requires stands { Stands store.now scope.old }
-    requires owned { Owned (heap store.now scope.old) of.now }
-    ensures done { Does result (heap store.now scope.old) (heap store.now scope.new) (meaning.set_add member.now (heap store.now scope.old) of.now) }
-    ensures stands { Stands store.now scope.new }
-    ensures grows { Grows (heap store.now scope.old) (heap store.now scope.new) }
+    requires stands { Stands (states store.now) scope.old }
+    requires owned { Owned (heap (states store.now) scope.old) of.now }
+    ensures done { Does result (heap (states store.now) scope.old) (heap (states store.now) scope.new) (meaning.set_add member.now (heap (states store.now) scope.old) of.now) }
+    ensures stands { Stands (states store.now) scope.new }
+    ensures grows { Grows (heap (states store.now) scope.old) (heap (states store.now) scope.new) }
     ensures tables { slots scope.new ≤ slots scope.old + 1 }
 {
     check_adding(scope, store, of, member)?;
@@ -50,9 +51,9 @@ pub fn set_has(
     of: &Rv,
     member: &Rv,
 ) -> Result<bool, DraftFault>
-    requires stands { Stands store.now scope.old }
-    requires owned { Owned (heap store.now scope.old) of.now }
-    ensures answer { result ≡ meaning.set_has member.now (heap store.now scope.old) of.now }
+    requires stands { Stands (states store.now) scope.old }
+    requires owned { Owned (heap (states store.now) scope.old) of.now }
+    ensures answer { result ≡ meaning.set_has member.now (heap (states store.now) scope.old) of.now }
     ensures same { scope.new ≡ scope.old }
 {
     has_by(scope, store, of, member, Takes::Sets)
@@ -68,11 +69,11 @@ pub fn set_delete(
     of: &Rv,
     member: &Rv,
 ) -> Result<bool, DraftFault>
-    requires stands { Stands store.now scope.old }
-    requires owned { Owned (heap store.now scope.old) of.now }
-    ensures done { Does result (heap store.now scope.old) (heap store.now scope.new) (meaning.set_delete member.now (heap store.now scope.old) of.now) }
-    ensures stands { Stands store.now scope.new }
-    ensures grows { Grows (heap store.now scope.old) (heap store.now scope.new) }
+    requires stands { Stands (states store.now) scope.old }
+    requires owned { Owned (heap (states store.now) scope.old) of.now }
+    ensures done { Does result (heap (states store.now) scope.old) (heap (states store.now) scope.new) (meaning.set_delete member.now (heap (states store.now) scope.old) of.now) }
+    ensures stands { Stands (states store.now) scope.new }
+    ensures grows { Grows (heap (states store.now) scope.old) (heap (states store.now) scope.new) }
     ensures tables { slots scope.new ≤ slots scope.old + 1 }
 {
     delete(alloc, scope, store, of, member, Takes::Sets)
@@ -82,11 +83,11 @@ pub fn set_delete(
 /// refusal all is as before.
 /// `Revoked` where an operand is a reference of another scope. `Memory` where memory runs out.
 pub fn set_clear(alloc: Global, scope: &mut Scope, store: &Store, of: &Rv) -> Result<(), DraftFault>
-    requires stands { Stands store.now scope.old }
-    requires owned { Owned (heap store.now scope.old) of.now }
-    ensures done { Does result (heap store.now scope.old) (heap store.now scope.new) (meaning.set_clear (heap store.now scope.old) of.now) }
-    ensures stands { Stands store.now scope.new }
-    ensures grows { Grows (heap store.now scope.old) (heap store.now scope.new) }
+    requires stands { Stands (states store.now) scope.old }
+    requires owned { Owned (heap (states store.now) scope.old) of.now }
+    ensures done { Does result (heap (states store.now) scope.old) (heap (states store.now) scope.new) (meaning.set_clear (heap (states store.now) scope.old) of.now) }
+    ensures stands { Stands (states store.now) scope.new }
+    ensures grows { Grows (heap (states store.now) scope.old) (heap (states store.now) scope.new) }
     ensures tables { slots scope.new ≤ slots scope.old + 1 }
 {
     clear(alloc, scope, store, of, Takes::Sets)

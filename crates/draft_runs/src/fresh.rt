@@ -1,4 +1,5 @@
 //! Calls that make objects.
+ghost use Rattle.node_store.specs.Paged.{states};
 ghost use Rattle.std.specs.Prelude.{◌≡◌, None};
 ghost use Rattle.value_model.specs.Limits.{value_limit};
 ghost use Rattle.run_heap.specs.Sound.{AllOwned};
@@ -14,10 +15,10 @@ use values::Val;
 impl Run {
     /// Calls `new_object`: the object, which is kept.
     pub fn new_object(&mut self, alloc: Global) -> Result<String, AllocError>
-        requires stands { Stands self.old.store self.old.scope }
-        requires owned { AllOwned (heap self.old.store self.old.scope) self.old.values.items }
-        ensures stands { Stands self.new.store self.new.scope }
-        ensures owned { AllOwned (heap self.new.store self.new.scope) self.new.values.items }
+        requires stands { Stands (states self.old.store) self.old.scope }
+        requires owned { AllOwned (heap (states self.old.store) self.old.scope) self.old.values.items }
+        ensures stands { Stands (states self.new.store) self.new.scope }
+        ensures owned { AllOwned (heap (states self.new.store) self.new.scope) self.new.values.items }
     {
         let answer = self.scope.new_object(alloc)?;
         self.keep(alloc, Ok(answer))
@@ -25,10 +26,10 @@ impl Run {
 
     /// Calls `new_list`: the list, which is kept.
     pub fn new_list(&mut self, alloc: Global) -> Result<String, AllocError>
-        requires stands { Stands self.old.store self.old.scope }
-        requires owned { AllOwned (heap self.old.store self.old.scope) self.old.values.items }
-        ensures stands { Stands self.new.store self.new.scope }
-        ensures owned { AllOwned (heap self.new.store self.new.scope) self.new.values.items }
+        requires stands { Stands (states self.old.store) self.old.scope }
+        requires owned { AllOwned (heap (states self.old.store) self.old.scope) self.old.values.items }
+        ensures stands { Stands (states self.new.store) self.new.scope }
+        ensures owned { AllOwned (heap (states self.new.store) self.new.scope) self.new.values.items }
     {
         let answer = self.scope.new_list(alloc)?;
         self.keep(alloc, Ok(answer))
@@ -36,10 +37,10 @@ impl Run {
 
     /// Calls `keys`: the list, which is kept, or the refusal.
     pub fn keys(&mut self, alloc: Global, of: &Operand) -> Result<String, AllocError>
-        requires stands { Stands self.old.store self.old.scope }
-        requires owned { AllOwned (heap self.old.store self.old.scope) self.old.values.items }
-        ensures stands { Stands self.new.store self.new.scope }
-        ensures owned { AllOwned (heap self.new.store self.new.scope) self.new.values.items }
+        requires stands { Stands (states self.old.store) self.old.scope }
+        requires owned { AllOwned (heap (states self.old.store) self.old.scope) self.old.values.items }
+        ensures stands { Stands (states self.new.store) self.new.scope }
+        ensures owned { AllOwned (heap (states self.new.store) self.new.scope) self.new.values.items }
     {
         let of = self.value(alloc, of)?;
         let answer = self.scope.keys(alloc, &self.store, &of);
@@ -49,10 +50,10 @@ impl Run {
     /// Calls `plain_of`: the value, which is kept.
     pub fn plain(&mut self, alloc: Global, v: &Val) -> Result<String, AllocError>
         requires limit { value_limit v.now ≡ None }
-        requires stands { Stands self.old.store self.old.scope }
-        requires owned { AllOwned (heap self.old.store self.old.scope) self.old.values.items }
-        ensures stands { Stands self.new.store self.new.scope }
-        ensures owned { AllOwned (heap self.new.store self.new.scope) self.new.values.items }
+        requires stands { Stands (states self.old.store) self.old.scope }
+        requires owned { AllOwned (heap (states self.old.store) self.old.scope) self.old.values.items }
+        ensures stands { Stands (states self.new.store) self.new.scope }
+        ensures owned { AllOwned (heap (states self.new.store) self.new.scope) self.new.values.items }
     {
         let answer = self.scope.plain_of(alloc, v)?;
         self.keep(alloc, Ok(answer))
@@ -60,10 +61,10 @@ impl Run {
 
     /// Calls `new_of`: the object, which is kept.
     pub fn new_of(&mut self, alloc: Global, kind: Kind) -> Result<String, AllocError>
-        requires stands { Stands self.old.store self.old.scope }
-        requires owned { AllOwned (heap self.old.store self.old.scope) self.old.values.items }
-        ensures stands { Stands self.new.store self.new.scope }
-        ensures owned { AllOwned (heap self.new.store self.new.scope) self.new.values.items }
+        requires stands { Stands (states self.old.store) self.old.scope }
+        requires owned { AllOwned (heap (states self.old.store) self.old.scope) self.old.values.items }
+        ensures stands { Stands (states self.new.store) self.new.scope }
+        ensures owned { AllOwned (heap (states self.new.store) self.new.scope) self.new.values.items }
     {
         let answer = self.scope.new_of(alloc, kind)?;
         self.keep(alloc, Ok(answer))
@@ -71,10 +72,10 @@ impl Run {
 
     /// Calls `list_of`: the list, which is kept, or `not called` where a list may not hold one of the values.
     pub fn list_of(&mut self, alloc: Global, items: &[Operand]) -> Result<String, AllocError>
-        requires stands { Stands self.old.store self.old.scope }
-        requires owned { AllOwned (heap self.old.store self.old.scope) self.old.values.items }
-        ensures stands { Stands self.new.store self.new.scope }
-        ensures owned { AllOwned (heap self.new.store self.new.scope) self.new.values.items }
+        requires stands { Stands (states self.old.store) self.old.scope }
+        requires owned { AllOwned (heap (states self.old.store) self.old.scope) self.old.values.items }
+        ensures stands { Stands (states self.new.store) self.new.scope }
+        ensures owned { AllOwned (heap (states self.new.store) self.new.scope) self.new.values.items }
     {
         let Some(items) = self.stored(alloc, items)? else {
             return not_called(alloc);
@@ -94,10 +95,10 @@ impl Run {
         items: &[Operand],
         others: &[Operand],
     ) -> Result<String, AllocError>
-        requires stands { Stands self.old.store self.old.scope }
-        requires owned { AllOwned (heap self.old.store self.old.scope) self.old.values.items }
-        ensures stands { Stands self.new.store self.new.scope }
-        ensures owned { AllOwned (heap self.new.store self.new.scope) self.new.values.items }
+        requires stands { Stands (states self.old.store) self.old.scope }
+        requires owned { AllOwned (heap (states self.old.store) self.old.scope) self.old.values.items }
+        ensures stands { Stands (states self.new.store) self.new.scope }
+        ensures owned { AllOwned (heap (states self.new.store) self.new.scope) self.new.values.items }
     {
         let of = self.value(alloc, of)?;
         let Some(items) = self.stored(alloc, items)? else {

@@ -1,4 +1,5 @@
 //! What a call's conditions ask, found out by what the calls on one value answer.
+ghost use Rattle.node_store.specs.Paged.{states};
 ghost use Rattle.std.specs.Prelude.{◌≡◌, ◌≢◌, ◌<◌, IfOk, IfSome, IsTrue, Some};
 ghost use Rattle.value_model.specs.Limits.{is_long_key};
 ghost use Rattle.value_model.specs.declared.kind.Kind.TheVariants as kind_model;
@@ -17,10 +18,10 @@ use value_model::{Key, Kind};
 impl Run {
     /// The kind of a container of this scope; None for any other value.
     pub(crate) fn container(&self, v: &Rv) -> Option<Kind>
-        requires stands { Stands self.now.store self.now.scope }
-        requires owned { Owned (heap self.now.store self.now.scope) v.now }
-        ensures container { IfSome result (λ k. IsContainer (heap self.now.store self.now.scope) v.now) }
-        ensures kind { IfSome result (λ k. spec.kind_of (heap self.now.store self.now.scope) v.now ≡ Some k) }
+        requires stands { Stands (states self.now.store) self.now.scope }
+        requires owned { Owned (heap (states self.now.store) self.now.scope) v.now }
+        ensures container { IfSome result (λ k. IsContainer (heap (states self.now.store) self.now.scope) v.now) }
+        ensures kind { IfSome result (λ k. spec.kind_of (heap (states self.now.store) self.now.scope) v.now ≡ Some k) }
     {
         if !self.scope.owns(v) {
             return None;
@@ -30,10 +31,10 @@ impl Run {
 
     /// The kind of an object of this scope; None for any other value.
     pub(crate) fn object(&self, v: &Rv) -> Option<Kind>
-        requires stands { Stands self.now.store self.now.scope }
-        requires owned { Owned (heap self.now.store self.now.scope) v.now }
-        ensures object { IfSome result (λ k. IsObject (heap self.now.store self.now.scope) v.now) }
-        ensures kind { IfSome result (λ k. spec.kind_of (heap self.now.store self.now.scope) v.now ≡ Some k) }
+        requires stands { Stands (states self.now.store) self.now.scope }
+        requires owned { Owned (heap (states self.now.store) self.now.scope) v.now }
+        ensures object { IfSome result (λ k. IsObject (heap (states self.now.store) self.now.scope) v.now) }
+        ensures kind { IfSome result (λ k. spec.kind_of (heap (states self.now.store) self.now.scope) v.now ≡ Some k) }
     {
         match v {
             Rv::Obj(_) => self.container(v),
@@ -43,9 +44,9 @@ impl Run {
 
     /// Whether the value is an object, a Map or a Set, frozen or not.
     pub(crate) fn is_keyed(&self, v: &Rv) -> bool
-        requires stands { Stands self.now.store self.now.scope }
-        requires owned { Owned (heap self.now.store self.now.scope) v.now }
-        ensures { IsTrue result → IsKeyed (heap self.now.store self.now.scope) v.now }
+        requires stands { Stands (states self.now.store) self.now.scope }
+        requires owned { Owned (heap (states self.now.store) self.now.scope) v.now }
+        ensures { IsTrue result → IsKeyed (heap (states self.now.store) self.now.scope) v.now }
     {
         match self.container(v) {
             Some(kind) => !kind.is_list(),
@@ -55,9 +56,9 @@ impl Run {
 
     /// Whether the value is a container that has the i-th entry.
     pub(crate) fn has_entry(&self, v: &Rv, i: usize) -> bool
-        requires stands { Stands self.now.store self.now.scope }
-        requires owned { Owned (heap self.now.store self.now.scope) v.now }
-        ensures { IsTrue result → IsEntry (heap self.now.store self.now.scope) v.now i }
+        requires stands { Stands (states self.now.store) self.now.scope }
+        requires owned { Owned (heap (states self.now.store) self.now.scope) v.now }
+        ensures { IsTrue result → IsEntry (heap (states self.now.store) self.now.scope) v.now i }
     {
         match self.container(v) {
             Some(_) => i < self.scope.count(&self.store, v),
@@ -67,9 +68,9 @@ impl Run {
 
     /// Whether the value is an object, a Map or a Set that may be written.
     pub(crate) fn is_keyed_object(&self, v: &Rv) -> bool
-        requires stands { Stands self.now.store self.now.scope }
-        requires owned { Owned (heap self.now.store self.now.scope) v.now }
-        ensures { IsTrue result → IsKeyedObject (heap self.now.store self.now.scope) v.now }
+        requires stands { Stands (states self.now.store) self.now.scope }
+        requires owned { Owned (heap (states self.now.store) self.now.scope) v.now }
+        ensures { IsTrue result → IsKeyedObject (heap (states self.now.store) self.now.scope) v.now }
     {
         match self.object(v) {
             Some(kind) => !kind.is_list(),
@@ -79,9 +80,9 @@ impl Run {
 
     /// Whether the value is a list that may be written, and has these items.
     pub(crate) fn may_splice(&self, v: &Rv, from: usize, to: usize) -> bool
-        requires stands { Stands self.now.store self.now.scope }
-        requires owned { Owned (heap self.now.store self.now.scope) v.now }
-        ensures { IsTrue result → HasItems (heap self.now.store self.now.scope) v.now from to }
+        requires stands { Stands (states self.now.store) self.now.scope }
+        requires owned { Owned (heap (states self.now.store) self.now.scope) v.now }
+        ensures { IsTrue result → HasItems (heap (states self.now.store) self.now.scope) v.now from to }
     {
         match self.object(v) {
             Some(kind) => { kind.is_list() && from <= to && to <= self.scope.count(&self.store, v) }
@@ -91,10 +92,10 @@ impl Run {
 
     /// Whether a value may be set at a key of an object.
     pub(crate) fn may_set(&self, of: &Rv, key: &Key, value: &Rv) -> bool
-        requires stands { Stands self.now.store self.now.scope }
-        requires owned { Owned (heap self.now.store self.now.scope) of.now }
-        requires value { Owned (heap self.now.store self.now.scope) value.now }
-        ensures { IsTrue result → MaySet (heap self.now.store self.now.scope) of.now key.now value.now }
+        requires stands { Stands (states self.now.store) self.now.scope }
+        requires owned { Owned (heap (states self.now.store) self.now.scope) of.now }
+        requires value { Owned (heap (states self.now.store) self.now.scope) value.now }
+        ensures { IsTrue result → MaySet (heap (states self.now.store) self.now.scope) of.now key.now value.now }
     {
         match self.object(of) {
             Some(kind) => {
@@ -106,8 +107,8 @@ impl Run {
 
     /// Whether the value is one that an object may hold.
     pub(crate) fn is_stored(&self, v: &Rv) -> bool
-        requires { Owned (heap self.now.store self.now.scope) v.now }
-        ensures { IsTrue result → IsStored (heap self.now.store self.now.scope) v.now }
+        requires { Owned (heap (states self.now.store) self.now.scope) v.now }
+        ensures { IsTrue result → IsStored (heap (states self.now.store) self.now.scope) v.now }
     {
         match v {
             Rv::Undefined => false,
@@ -121,8 +122,8 @@ impl Run {
         alloc: Global,
         operands: &[Operand],
     ) -> Result<Option<Vec<Rv>>, AllocError>
-        requires { AllOwned (heap self.now.store self.now.scope) self.now.values.items }
-        ensures { IfOk result (λ o. IfSome o (λ vs. AllStored (heap self.now.store self.now.scope) vs.items)) }
+        requires { AllOwned (heap (states self.now.store) self.now.scope) self.now.values.items }
+        ensures { IfOk result (λ o. IfSome o (λ vs. AllStored (heap (states self.now.store) self.now.scope) vs.items)) }
     {
         let mut out = Vec::new(alloc);
         for operand in operands {

@@ -1,5 +1,6 @@
 //! Calls that look at one container, and have conditions where others have refusals: a call that may not be made is answered
 //! by `not called`.
+ghost use Rattle.node_store.specs.Paged.{states};
 ghost use Rattle.std.specs.Prelude.{◌≡◌, ◌<◌, Some};
 ghost use Rattle.run_heap.specs.Operations as spec;
 ghost use Rattle.run_heap.specs.Sound.{AllOwned, IsContainer};
@@ -15,8 +16,8 @@ use value_model::{Key, Kind};
 impl Run {
     /// Calls `kind_of` on what is no reference of another scope: the name of the kind, or `none`.
     pub fn kind(&self, alloc: Global, v: &Operand) -> Result<&'static str, AllocError>
-        requires stands { Stands self.now.store self.now.scope }
-        requires owned { AllOwned (heap self.now.store self.now.scope) self.now.values.items }
+        requires stands { Stands (states self.now.store) self.now.scope }
+        requires owned { AllOwned (heap (states self.now.store) self.now.scope) self.now.values.items }
     {
         let v = self.value(alloc, v)?;
         if !self.scope.owns(&v) {
@@ -30,8 +31,8 @@ impl Run {
 
     /// Calls `count` on a container.
     pub fn count(&self, alloc: Global, of: &Operand) -> Result<String, AllocError>
-        requires stands { Stands self.now.store self.now.scope }
-        requires owned { AllOwned (heap self.now.store self.now.scope) self.now.values.items }
+        requires stands { Stands (states self.now.store) self.now.scope }
+        requires owned { AllOwned (heap (states self.now.store) self.now.scope) self.now.values.items }
     {
         let of = self.value(alloc, of)?;
         match self.container(&of) {
@@ -45,8 +46,8 @@ impl Run {
 
     /// Calls `find` on an object, a Map or a Set: the index, or `none`.
     pub fn find(&self, alloc: Global, of: &Operand, key: &Key) -> Result<String, AllocError>
-        requires stands { Stands self.now.store self.now.scope }
-        requires owned { AllOwned (heap self.now.store self.now.scope) self.now.values.items }
+        requires stands { Stands (states self.now.store) self.now.scope }
+        requires owned { AllOwned (heap (states self.now.store) self.now.scope) self.now.values.items }
     {
         let of = self.value(alloc, of)?;
         if !self.is_keyed(&of) {
@@ -60,8 +61,8 @@ impl Run {
 
     /// Calls `key_at` on an object, a Map or a Set that has the entry.
     pub fn key_at(&self, alloc: Global, of: &Operand, i: usize) -> Result<String, AllocError>
-        requires stands { Stands self.now.store self.now.scope }
-        requires owned { AllOwned (heap self.now.store self.now.scope) self.now.values.items }
+        requires stands { Stands (states self.now.store) self.now.scope }
+        requires owned { AllOwned (heap (states self.now.store) self.now.scope) self.now.values.items }
     {
         let of = self.value(alloc, of)?;
         if !self.is_keyed(&of) {
@@ -75,10 +76,10 @@ impl Run {
 
     /// Calls `entry_at` on a container that has the entry: the value, which is kept.
     pub fn entry_at(&mut self, alloc: Global, of: &Operand, i: usize) -> Result<String, AllocError>
-        requires stands { Stands self.old.store self.old.scope }
-        requires owned { AllOwned (heap self.old.store self.old.scope) self.old.values.items }
-        ensures stands { Stands self.new.store self.new.scope }
-        ensures owned { AllOwned (heap self.new.store self.new.scope) self.new.values.items }
+        requires stands { Stands (states self.old.store) self.old.scope }
+        requires owned { AllOwned (heap (states self.old.store) self.old.scope) self.old.values.items }
+        ensures stands { Stands (states self.new.store) self.new.scope }
+        ensures owned { AllOwned (heap (states self.new.store) self.new.scope) self.new.values.items }
     {
         let of = self.value(alloc, of)?;
         if !self.has_entry(&of, i) {
@@ -90,8 +91,8 @@ impl Run {
 
     /// Calls `peek` on a container that has the entry: the value as it is kept.
     pub fn peek(&self, alloc: Global, of: &Operand, i: usize) -> Result<String, AllocError>
-        requires stands { Stands self.now.store self.now.scope }
-        requires owned { AllOwned (heap self.now.store self.now.scope) self.now.values.items }
+        requires stands { Stands (states self.now.store) self.now.scope }
+        requires owned { AllOwned (heap (states self.now.store) self.now.scope) self.now.values.items }
     {
         let of = self.value(alloc, of)?;
         if !self.has_entry(&of, i) {
@@ -108,8 +109,8 @@ impl Run {
         i: usize,
         item: &Operand,
     ) -> Result<&'static str, AllocError>
-        requires stands { Stands self.now.store self.now.scope }
-        requires owned { AllOwned (heap self.now.store self.now.scope) self.now.values.items }
+        requires stands { Stands (states self.now.store) self.now.scope }
+        requires owned { AllOwned (heap (states self.now.store) self.now.scope) self.now.values.items }
     {
         let of = self.value(alloc, of)?;
         let item = self.value(alloc, item)?;
@@ -121,8 +122,8 @@ impl Run {
 
     /// Calls `written` on a container.
     pub fn written(&self, alloc: Global, of: &Operand) -> Result<&'static str, AllocError>
-        requires stands { Stands self.now.store self.now.scope }
-        requires owned { AllOwned (heap self.now.store self.now.scope) self.now.values.items }
+        requires stands { Stands (states self.now.store) self.now.scope }
+        requires owned { AllOwned (heap (states self.now.store) self.now.scope) self.now.values.items }
     {
         let of = self.value(alloc, of)?;
         match self.container(&of) {
@@ -133,8 +134,8 @@ impl Run {
 
     /// Calls `source` on a container: the number of the node behind `#`, or `none`.
     pub fn source(&self, alloc: Global, of: &Operand) -> Result<String, AllocError>
-        requires stands { Stands self.now.store self.now.scope }
-        requires owned { AllOwned (heap self.now.store self.now.scope) self.now.values.items }
+        requires stands { Stands (states self.now.store) self.now.scope }
+        requires owned { AllOwned (heap (states self.now.store) self.now.scope) self.now.values.items }
     {
         let of = self.value(alloc, of)?;
         match self.container(&of) {
@@ -145,8 +146,8 @@ impl Run {
 
     /// Calls `place_of`: the path as JSON, or `none`.
     pub fn place_of(&self, alloc: Global, of: &Operand) -> Result<String, AllocError>
-        requires stands { Stands self.now.store self.now.scope }
-        requires owned { AllOwned (heap self.now.store self.now.scope) self.now.values.items }
+        requires stands { Stands (states self.now.store) self.now.scope }
+        requires owned { AllOwned (heap (states self.now.store) self.now.scope) self.now.values.items }
     {
         let of = self.value(alloc, of)?;
         match self.scope.place_of(alloc, &self.store, &of)? {
@@ -157,7 +158,7 @@ impl Run {
 
     /// Calls `slot` on a reference.
     pub fn slot(&self, alloc: Global, of: &Operand) -> Result<String, AllocError>
-        requires { AllOwned (heap self.now.store self.now.scope) self.now.values.items }
+        requires { AllOwned (heap (states self.now.store) self.now.scope) self.now.values.items }
     {
         match self.value(alloc, of)? {
             Rv::Obj(object) => {
@@ -170,8 +171,8 @@ impl Run {
 
     /// The content of an object or a frozen node: its kind, whether it is written, its source and its entries.
     pub fn show(&self, alloc: Global, of: &Operand) -> Result<String, AllocError>
-        requires stands { Stands self.now.store self.now.scope }
-        requires owned { AllOwned (heap self.now.store self.now.scope) self.now.values.items }
+        requires stands { Stands (states self.now.store) self.now.scope }
+        requires owned { AllOwned (heap (states self.now.store) self.now.scope) self.now.values.items }
     {
         let of = self.value(alloc, of)?;
         let Some(kind) = self.container(&of) else {
@@ -190,9 +191,9 @@ impl Run {
 
     /// The entries of a container, each with its key where there are keys.
     fn entries(&self, alloc: Global, of: &Rv, kind: Kind) -> Result<String, AllocError>
-        requires stands { Stands self.now.store self.now.scope }
-        requires container { IsContainer (heap self.now.store self.now.scope) of.now }
-        requires kind { spec.kind_of (heap self.now.store self.now.scope) of.now ≡ Some kind }
+        requires stands { Stands (states self.now.store) self.now.scope }
+        requires container { IsContainer (heap (states self.now.store) self.now.scope) of.now }
+        requires kind { spec.kind_of (heap (states self.now.store) self.now.scope) of.now ≡ Some kind }
     {
         let mut out = String::new(alloc);
         for i in 0..self.scope.count(&self.store, of) {
@@ -206,10 +207,10 @@ impl Run {
 
     /// An entry of a container.
     fn entry(&self, alloc: Global, of: &Rv, kind: Kind, i: usize) -> Result<String, AllocError>
-        requires stands { Stands self.now.store self.now.scope }
-        requires container { IsContainer (heap self.now.store self.now.scope) of.now }
-        requires kind { spec.kind_of (heap self.now.store self.now.scope) of.now ≡ Some kind }
-        requires in_range { i < spec.count (heap self.now.store self.now.scope) of.now }
+        requires stands { Stands (states self.now.store) self.now.scope }
+        requires container { IsContainer (heap (states self.now.store) self.now.scope) of.now }
+        requires kind { spec.kind_of (heap (states self.now.store) self.now.scope) of.now ≡ Some kind }
+        requires in_range { i < spec.count (heap (states self.now.store) self.now.scope) of.now }
     {
         let value = peek_text(alloc, &self.scope.peek(&self.store, of, i))?;
         if kind.is_list() {

@@ -1,4 +1,5 @@
 //! Calls that read.
+ghost use Rattle.node_store.specs.Paged.{states};
 ghost use Rattle.run_heap.specs.Sound.{AllOwned};
 ghost use Rattle.draft_core.specs.Seen.{heap, Stands};
 
@@ -11,10 +12,10 @@ use value_model::Key;
 impl Run {
     /// Calls `get`: the value, which is kept, or the refusal.
     pub fn get(&mut self, alloc: Global, of: &Operand, key: &Key) -> Result<String, AllocError>
-        requires stands { Stands self.old.store self.old.scope }
-        requires owned { AllOwned (heap self.old.store self.old.scope) self.old.values.items }
-        ensures stands { Stands self.new.store self.new.scope }
-        ensures owned { AllOwned (heap self.new.store self.new.scope) self.new.values.items }
+        requires stands { Stands (states self.old.store) self.old.scope }
+        requires owned { AllOwned (heap (states self.old.store) self.old.scope) self.old.values.items }
+        ensures stands { Stands (states self.new.store) self.new.scope }
+        ensures owned { AllOwned (heap (states self.new.store) self.new.scope) self.new.values.items }
     {
         let of = self.value(alloc, of)?;
         let answer = self.scope.get(alloc, &self.store, &of, key);
@@ -23,10 +24,10 @@ impl Run {
 
     /// Calls `original`: the frozen container, which is kept, or the refusal.
     pub fn original(&mut self, alloc: Global, of: &Operand) -> Result<String, AllocError>
-        requires stands { Stands self.old.store self.old.scope }
-        requires owned { AllOwned (heap self.old.store self.old.scope) self.old.values.items }
-        ensures stands { Stands self.new.store self.new.scope }
-        ensures owned { AllOwned (heap self.new.store self.new.scope) self.new.values.items }
+        requires stands { Stands (states self.old.store) self.old.scope }
+        requires owned { AllOwned (heap (states self.old.store) self.old.scope) self.old.values.items }
+        ensures stands { Stands (states self.new.store) self.new.scope }
+        ensures owned { AllOwned (heap (states self.new.store) self.new.scope) self.new.values.items }
     {
         let of = self.value(alloc, of)?;
         let answer = self.scope.original(&self.store, &of);
@@ -35,8 +36,8 @@ impl Run {
 
     /// Calls `len`: the length, or the refusal.
     pub fn len(&self, alloc: Global, of: &Operand) -> Result<String, AllocError>
-        requires stands { Stands self.now.store self.now.scope }
-        requires owned { AllOwned (heap self.now.store self.now.scope) self.now.values.items }
+        requires stands { Stands (states self.now.store) self.now.scope }
+        requires owned { AllOwned (heap (states self.now.store) self.now.scope) self.now.values.items }
     {
         let of = self.value(alloc, of)?;
         match self.scope.len(&self.store, &of) {
@@ -47,7 +48,7 @@ impl Run {
 
     /// Calls `same`.
     pub fn same(&self, alloc: Global, a: &Operand, b: &Operand) -> Result<bool, AllocError>
-        requires { AllOwned (heap self.now.store self.now.scope) self.now.values.items }
+        requires { AllOwned (heap (states self.now.store) self.now.scope) self.now.values.items }
     {
         let a = self.value(alloc, a)?;
         let b = self.value(alloc, b)?;
@@ -56,7 +57,7 @@ impl Run {
 
     /// Calls `owns`.
     pub fn owns(&self, alloc: Global, v: &Operand) -> Result<bool, AllocError>
-        requires { AllOwned (heap self.now.store self.now.scope) self.now.values.items }
+        requires { AllOwned (heap (states self.now.store) self.now.scope) self.now.values.items }
     {
         let v = self.value(alloc, v)?;
         Ok(self.scope.owns(&v))
@@ -64,7 +65,7 @@ impl Run {
 
     /// Calls `is_draft`.
     pub fn is_draft(&self, alloc: Global, v: &Operand) -> Result<bool, AllocError>
-        requires { AllOwned (heap self.now.store self.now.scope) self.now.values.items }
+        requires { AllOwned (heap (states self.now.store) self.now.scope) self.now.values.items }
     {
         let v = self.value(alloc, v)?;
         Ok(self.scope.is_draft(&v))

@@ -1,3 +1,4 @@
+ghost use Rattle.node_store.specs.Paged.{states};
 ghost use Rattle.std.specs.Prelude.{◌≤◌, IfOk, length};
 ghost use Rattle.run_heap.specs.Sound.{Fits, Owned, AllOwned};
 ghost use Rattle.draft_core.specs.Seen.{heap, Stands};
@@ -24,9 +25,9 @@ pub struct Run {
 impl Run {
     /// The beginning of a run on a state.
     pub fn new(alloc: Global, store: Store, root: NodeId) -> Result<Run, AllocError>
-        requires { root ≤ length store }
-        ensures stands { IfOk result (λ r. Stands r.store r.scope) }
-        ensures owned { IfOk result (λ r. AllOwned (heap r.store r.scope) r.values.items) }
+        requires { root ≤ length (states store) }
+        ensures stands { IfOk result (λ r. Stands (states r.store) r.scope) }
+        ensures owned { IfOk result (λ r. AllOwned (heap (states r.store) r.scope) r.values.items) }
     {
         let mut mint = ScopeMint::new();
         let other = Scope::begin(alloc, mint.take(), &store, root)?;
@@ -43,8 +44,8 @@ impl Run {
 
     /// The beginning of a run on the state that a text is as JSON.
     pub fn of_state(alloc: Global, text: &str) -> Result<Run, WordFault>
-        ensures stands { IfOk result (λ r. Stands r.store r.scope) }
-        ensures owned { IfOk result (λ r. AllOwned (heap r.store r.scope) r.values.items) }
+        ensures stands { IfOk result (λ r. Stands (states r.store) r.scope) }
+        ensures owned { IfOk result (λ r. AllOwned (heap (states r.store) r.scope) r.values.items) }
     {
         let v = state_of(alloc, text)?;
         let mut store = Store::new(alloc)?;
@@ -54,8 +55,8 @@ impl Run {
 
     /// The beginning of a run on a list that holds one empty object twice.
     pub fn of_twins(alloc: Global) -> Result<Run, WordFault>
-        ensures stands { IfOk result (λ r. Stands r.store r.scope) }
-        ensures owned { IfOk result (λ r. AllOwned (heap r.store r.scope) r.values.items) }
+        ensures stands { IfOk result (λ r. Stands (states r.store) r.scope) }
+        ensures owned { IfOk result (λ r. AllOwned (heap (states r.store) r.scope) r.values.items) }
     {
         let mut store = Store::new(alloc)?;
         let child = store.load(alloc, &Val::empty_object(alloc))?;
@@ -73,8 +74,8 @@ impl Run {
 
     /// The value that an operand is; `Undefined` for a number that no answer has.
     pub fn value(&self, alloc: Global, operand: &Operand) -> Result<Rv, AllocError>
-        requires { AllOwned (heap self.now.store self.now.scope) self.now.values.items }
-        ensures { IfOk result (λ v. Owned (heap self.now.store self.now.scope) v) }
+        requires { AllOwned (heap (states self.now.store) self.now.scope) self.now.values.items }
+        ensures { IfOk result (λ v. Owned (heap (states self.now.store) self.now.scope) v) }
     {
         match operand {
             Operand::Answer(i) => self.answer(alloc, *i),
@@ -85,8 +86,8 @@ impl Run {
 
     /// An earlier answer; `Undefined` where there is none.
     fn answer(&self, alloc: Global, i: usize) -> Result<Rv, AllocError>
-        requires { AllOwned (heap self.now.store self.now.scope) self.now.values.items }
-        ensures { IfOk result (λ v. Owned (heap self.now.store self.now.scope) v) }
+        requires { AllOwned (heap (states self.now.store) self.now.scope) self.now.values.items }
+        ensures { IfOk result (λ v. Owned (heap (states self.now.store) self.now.scope) v) }
     {
         if i < self.values.len() {
             self.values[i].copy(alloc)
@@ -101,11 +102,11 @@ impl Run {
         alloc: Global,
         answer: Result<Rv, DraftFault>,
     ) -> Result<String, AllocError>
-        requires stands { Stands self.old.store self.old.scope }
-        requires owned { AllOwned (heap self.old.store self.old.scope) self.old.values.items }
-        requires fits { IfOk answer (λ v. Fits (heap self.old.store self.old.scope) v) }
-        ensures stands { Stands self.new.store self.new.scope }
-        ensures owned { AllOwned (heap self.new.store self.new.scope) self.new.values.items }
+        requires stands { Stands (states self.old.store) self.old.scope }
+        requires owned { AllOwned (heap (states self.old.store) self.old.scope) self.old.values.items }
+        requires fits { IfOk answer (λ v. Fits (heap (states self.old.store) self.old.scope) v) }
+        ensures stands { Stands (states self.new.store) self.new.scope }
+        ensures owned { AllOwned (heap (states self.new.store) self.new.scope) self.new.values.items }
     {
         match answer {
             Ok(v) => {
@@ -119,10 +120,10 @@ impl Run {
 
     /// Keeps a reference of another scope, and says it.
     pub fn foreign(&mut self, alloc: Global) -> Result<String, AllocError>
-        requires stands { Stands self.old.store self.old.scope }
-        requires owned { AllOwned (heap self.old.store self.old.scope) self.old.values.items }
-        ensures stands { Stands self.new.store self.new.scope }
-        ensures owned { AllOwned (heap self.new.store self.new.scope) self.new.values.items }
+        requires stands { Stands (states self.old.store) self.old.scope }
+        requires owned { AllOwned (heap (states self.old.store) self.old.scope) self.old.values.items }
+        ensures stands { Stands (states self.new.store) self.new.scope }
+        ensures owned { AllOwned (heap (states self.new.store) self.new.scope) self.new.values.items }
     {
         self.values.push(Rv::Obj(ObjRef {
             scope: self.other,

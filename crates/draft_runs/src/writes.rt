@@ -1,4 +1,5 @@
 //! Calls that write one object.
+ghost use Rattle.node_store.specs.Paged.{states};
 ghost use Rattle.run_heap.specs.Sound.{AllOwned};
 ghost use Rattle.draft_core.specs.Seen.{heap, Stands};
 
@@ -17,10 +18,10 @@ impl Run {
         key: &Key,
         value: &Operand,
     ) -> Result<&'static str, AllocError>
-        requires stands { Stands self.old.store self.old.scope }
-        requires owned { AllOwned (heap self.old.store self.old.scope) self.old.values.items }
-        ensures stands { Stands self.new.store self.new.scope }
-        ensures owned { AllOwned (heap self.new.store self.new.scope) self.new.values.items }
+        requires stands { Stands (states self.old.store) self.old.scope }
+        requires owned { AllOwned (heap (states self.old.store) self.old.scope) self.old.values.items }
+        ensures stands { Stands (states self.new.store) self.new.scope }
+        ensures owned { AllOwned (heap (states self.new.store) self.new.scope) self.new.values.items }
     {
         let of = self.value(alloc, of)?;
         let value = self.value(alloc, value)?;
@@ -37,10 +38,10 @@ impl Run {
         of: &Operand,
         key: &Key,
     ) -> Result<&'static str, AllocError>
-        requires stands { Stands self.old.store self.old.scope }
-        requires owned { AllOwned (heap self.old.store self.old.scope) self.old.values.items }
-        ensures stands { Stands self.new.store self.new.scope }
-        ensures owned { AllOwned (heap self.new.store self.new.scope) self.new.values.items }
+        requires stands { Stands (states self.old.store) self.old.scope }
+        requires owned { AllOwned (heap (states self.old.store) self.old.scope) self.old.values.items }
+        ensures stands { Stands (states self.new.store) self.new.scope }
+        ensures owned { AllOwned (heap (states self.new.store) self.new.scope) self.new.values.items }
     {
         let of = self.value(alloc, of)?;
         match self.scope.remove(alloc, &self.store, &of, key) {

@@ -18,7 +18,7 @@ use Rattle.numbered.specs.Store.{IsNumber, IsStore, tree_at}
 use Rattle.numbered.specs.Tree.{Tree, Branches, prim, node, none, branch, plain, plains, branches_of, before}
 use Rattle.node_store.specs.Nodes.{kind_of, cells_of, cells_in, cell_of}
 use Rattle.node_store.proofs.Tables.{cell_again}
-use Rattle.node_store.specs.declared.node.Cell.TheVariants as cell
+use Rattle.page_tables.specs.declared.cell.Cell.TheVariants as cell
 use Rattle.run_heap.specs.declared.value.Given.{Given}
 use Rattle.run_heap.specs.declared.value.Given.TheVariants as given
 use Rattle.run_heap.specs.declared.value.Rv.{Rv}

@@ -18,8 +18,8 @@ use Rattle.numbered.specs.Store.{IsNumber, IsStore, tree_at}
 use Rattle.numbered.specs.Tree.{Tree, Branches, prim, node, none, branch, plain, plains, containers, branches_of, children, before}
 use Rattle.node_store.specs.Nodes.{kind_of, keys_of, keys_in, cells_of, cells_in, cell_of, cell_tree, CellBelow}
 use Rattle.node_store.proofs.Tables.{cell_again}
-use Rattle.node_store.specs.declared.node.Cell.{Cell}
-use Rattle.node_store.specs.declared.node.Cell.TheVariants as cell
+use Rattle.page_tables.specs.declared.cell.Cell.{Cell}
+use Rattle.page_tables.specs.declared.cell.Cell.TheVariants as cell
 use Rattle.run_heap.specs.declared.value.Given.{Given}
 use Rattle.run_heap.specs.declared.value.Given.TheVariants as given
 use Rattle.run_heap.specs.declared.value.Rv.{Rv}

@@ -1,8 +1,8 @@
 -- A node's table as it is given out.
 use Rattle.std.proofs.Common.{ℕ, zero, suc, []}
 use Rattle.numbered.specs.Tree.{Tree, branches_of}
-use Rattle.node_store.specs.declared.node.Cell.{Cell}
-use Rattle.node_store.specs.declared.node.Cell.TheVariants as cell
+use Rattle.page_tables.specs.declared.cell.Cell.{Cell}
+use Rattle.page_tables.specs.declared.cell.Cell.TheVariants as cell
 use Rattle.run_heap.specs.declared.value.Given.{Given}
 use Rattle.run_heap.specs.declared.value.Given.TheVariants as given
 use Rattle.run_heap.specs.declared.value.Rv.{Rv}

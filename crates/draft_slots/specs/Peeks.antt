@@ -1,7 +1,7 @@
 -- A value as it is kept.
 use Rattle.std.specs.Prelude.{◌≡◌, ℕ, List, Some, slice_get}
 use Rattle.node_store.specs.Nodes.{cells_of}
-use Rattle.node_store.specs.declared.node.Cell.{Cell}
+use Rattle.page_tables.specs.declared.cell.Cell.{Cell}
 use Rattle.numbered.specs.Store.{tree_at}
 use Rattle.numbered.specs.Tree.{Tree, branches_of, before}
 use Rattle.run_heap.specs.declared.value.Given.{Given}

@@ -1,4 +1,5 @@
 //! Reading a container: an object's own content, or a node as the store holds it, of which nothing is copied.
+ghost use Rattle.node_store.specs.Paged.{states};
 ghost use Rattle.std.specs.Prelude.{◌^◌, ◌≡◌, ◌≢◌, ◌<◌, IfOk, IfSome, Some, List, length, slice_get};
 ghost use Rattle.value_model.specs.declared.key.Key.TheVariants as key_model;
 ghost use Rattle.value_model.specs.declared.kind.Kind.TheVariants as kind;
@@ -38,8 +39,8 @@ pub enum Peek<'a> {
 impl<'a> Look<'a> {
     /// What kind of container it is.
     pub fn kind(&self, store: &Store) -> Kind
-        requires { IsLook store.now self.now }
-        ensures { result ≡ kind_in (looked store.now self.now) }
+        requires { IsLook (states store.now) self.now }
+        ensures { result ≡ kind_in (looked (states store.now) self.now) }
     {
         match self {
             Look::Own(content) => content.kind,
@@ -49,8 +50,8 @@ impl<'a> Look<'a> {
 
     /// How many entries it has.
     pub fn count(&self, store: &Store) -> usize
-        requires { IsLook store.now self.now }
-        ensures value { result ≡ length (rows_of (looked store.now self.now)) }
+        requires { IsLook (states store.now) self.now }
+        ensures value { result ≡ length (rows_of (looked (states store.now) self.now)) }
         ensures small { result < 2 ^ 63 }
     {
         match self {
@@ -61,9 +62,9 @@ impl<'a> Look<'a> {
 
     /// The index of the entry with a key.
     pub fn find(&self, store: &Store, key: &Key) -> Option<usize>
-        requires look { IsLook store.now self.now }
-        requires keyed { kind_in (looked store.now self.now) ≢ kind.List }
-        ensures { result ≡ spec.position key.now (rows_of (looked store.now self.now)) }
+        requires look { IsLook (states store.now) self.now }
+        requires keyed { kind_in (looked (states store.now) self.now) ≢ kind.List }
+        ensures { result ≡ spec.position key.now (rows_of (looked (states store.now) self.now)) }
     {
         match self {
             Look::Own(content) => position(content.table.as_slice(), key),
@@ -73,9 +74,9 @@ impl<'a> Look<'a> {
 
     /// The value of an entry.
     pub fn value(&self, alloc: Global, store: &Store, i: usize) -> Result<Rv, AllocError>
-        requires look { IsLook store.now self.now }
-        requires in_range { i < length (rows_of (looked store.now self.now)) }
-        ensures { IfOk result (λ v. value_at i (rows_of (looked store.now self.now)) ≡ Some v) }
+        requires look { IsLook (states store.now) self.now }
+        requires in_range { i < length (rows_of (looked (states store.now) self.now)) }
+        ensures { IfOk result (λ v. value_at i (rows_of (looked (states store.now) self.now)) ≡ Some v) }
     {
         match self {
             Look::Own(content) => own_value(alloc, content, i),
@@ -85,10 +86,10 @@ impl<'a> Look<'a> {
 
     /// The key of an entry.
     pub fn key(&self, store: &'a Store, i: usize) -> &'a Key
-        requires look { IsLook store.now self.now }
-        requires keyed { kind_in (looked store.now self.now) ≢ kind.List }
-        requires in_range { i < length (rows_of (looked store.now self.now)) }
-        ensures { slice_get (spec.keys_of (rows_of (looked store.now self.now))) i ≡ Some result.now }
+        requires look { IsLook (states store.now) self.now }
+        requires keyed { kind_in (looked (states store.now) self.now) ≢ kind.List }
+        requires in_range { i < length (rows_of (looked (states store.now) self.now)) }
+        ensures { slice_get (spec.keys_of (rows_of (looked (states store.now) self.now))) i ≡ Some result.now }
     {
         match self {
             Look::Own(content) => &content.table.as_slice()[i].0,
@@ -98,9 +99,9 @@ impl<'a> Look<'a> {
 
     /// A copy of the key of an entry, in a list null.
     fn copy_key(&self, alloc: Global, store: &Store, i: usize) -> Result<Key, AllocError>
-        requires look { IsLook store.now self.now }
-        requires in_range { i < length (rows_of (looked store.now self.now)) }
-        ensures { IfOk result (λ k. slice_get (spec.keys_of (rows_of (looked store.now self.now))) i ≡ Some k) }
+        requires look { IsLook (states store.now) self.now }
+        requires in_range { i < length (rows_of (looked (states store.now) self.now)) }
+        ensures { IfOk result (λ k. slice_get (spec.keys_of (rows_of (looked (states store.now) self.now))) i ≡ Some k) }
     {
         match self {
             Look::Own(content) => own_key(alloc, content, i),
@@ -110,8 +111,8 @@ impl<'a> Look<'a> {
 
     /// The keys as elements of a list.
     pub fn keys(&self, alloc: Global, store: &Store) -> Result<Table, AllocError>
-        requires { IsLook store.now self.now }
-        ensures { IfOk result (λ t. t ≡ spec.listed (spec.keys_of (rows_of (looked store.now self.now)))) }
+        requires { IsLook (states store.now) self.now }
+        ensures { IfOk result (λ t. t ≡ spec.listed (spec.keys_of (rows_of (looked (states store.now) self.now)))) }
     {
         let count = self.count(store);
         let mut out = Vec::with_capacity(alloc, count)?;
@@ -124,9 +125,9 @@ impl<'a> Look<'a> {
 
     /// The value of an entry as it is kept.
     pub fn peek(&self, store: &'a Store, i: usize) -> Peek<'a>
-        requires look { IsLook store.now self.now }
-        requires in_range { i < length (rows_of (looked store.now self.now)) }
-        ensures { IsKept store.now self.now i result }
+        requires look { IsLook (states store.now) self.now }
+        requires in_range { i < length (rows_of (looked (states store.now) self.now)) }
+        ensures { IsKept (states store.now) self.now i result }
     {
         match self {
             Look::Own(content) => Peek::Read(&content.table.as_slice()[i].1),
@@ -146,9 +147,9 @@ impl<'a> Look<'a> {
 
     /// Whether the value of an entry is the same as another one.
     pub fn same(&self, store: &Store, i: usize, item: &Rv) -> bool
-        requires look { IsLook store.now self.now }
-        requires in_range { i < length (rows_of (looked store.now self.now)) }
-        ensures { IfSome (value_at i (rows_of (looked store.now self.now))) (λ v. result ≡ same v item.now) }
+        requires look { IsLook (states store.now) self.now }
+        requires in_range { i < length (rows_of (looked (states store.now) self.now)) }
+        ensures { IfSome (value_at i (rows_of (looked (states store.now) self.now))) (λ v. result ≡ same v item.now) }
     {
         match self {
             Look::Own(content) => content.table.as_slice()[i].1.same(item),
@@ -158,8 +159,8 @@ impl<'a> Look<'a> {
 
     /// An object's value by a text, or a list's element by an integer.
     pub fn entry(&self, alloc: Global, store: &Store, key: &Key) -> Result<Rv, DraftFault>
-        requires { IsLook store.now self.now }
-        ensures { Answers result (then_read (λ c. spec.entry key.now c.kind c.table) (looked store.now self.now)) }
+        requires { IsLook (states store.now) self.now }
+        ensures { Answers result (then_read (λ c. spec.entry key.now c.kind c.table) (looked (states store.now) self.now)) }
     {
         match self.kind(store) {
             Kind::Obj => match key {
@@ -176,10 +177,10 @@ impl<'a> Look<'a> {
 
     /// An object's value by a text.
     fn member(&self, alloc: Global, store: &Store, key: &Key, text: &Text) -> Result<Rv, DraftFault>
-        requires look { IsLook store.now self.now }
-        requires object { kind_in (looked store.now self.now) ≡ kind.Obj }
+        requires look { IsLook (states store.now) self.now }
+        requires object { kind_in (looked (states store.now) self.now) ≡ kind.Obj }
         requires text { key.now ≡ key_model.Text text.now }
-        ensures { Answers result (spec.entry key.now kind.Obj (rows_of (looked store.now self.now))) }
+        ensures { Answers result (spec.entry key.now kind.Obj (rows_of (looked (states store.now) self.now))) }
     {
         if text.is_reserved() {
             return Err(DraftFault::ReservedKey);
@@ -192,8 +193,8 @@ impl<'a> Look<'a> {
 
     /// A list's element by an integer.
     fn element(&self, alloc: Global, store: &Store, at: Safe) -> Result<Rv, AllocError>
-        requires { IsLook store.now self.now }
-        ensures { IfOk result (λ v. v ≡ spec.element at (rows_of (looked store.now self.now))) }
+        requires { IsLook (states store.now) self.now }
+        ensures { IfOk result (λ v. v ≡ spec.element at (rows_of (looked (states store.now) self.now))) }
     {
         match at.index() {
             Some(i) => {

@@ -1,4 +1,5 @@
 //! Reading a node of the store as an object: its containers are given out as frozen nodes, or as objects by their names.
+ghost use Rattle.node_store.specs.Paged.{states};
 ghost use Rattle.std.specs.Prelude.{◌≡◌, ◌≢◌, ◌+◌, ◌<◌, ◌≤◌, ◌^◌, IfOk, IfSome, Some, length, slice_get};
 ghost use Rattle.value_model.specs.declared.kind.Kind.TheVariants as kind;
 ghost use Rattle.numbered.specs.Store.{IsNumber, IsStore, tree_at};
@@ -25,11 +26,11 @@ pub fn node_value(
     given: Given,
     i: usize,
 ) -> Result<Rv, AllocError>
-    requires store { IsStore store.now }
-    requires number { IsNumber store.now id }
-    requires in_range { i < length (cells_of (tree_at store.now id)) }
-    requires fit { Fit given (tree_at store.now id) }
-    ensures { IfOk result (λ v. value_at i (node_table given (tree_at store.now id)) ≡ Some v) }
+    requires store { IsStore (states store.now) }
+    requires number { IsNumber (states store.now) id }
+    requires in_range { i < length (cells_of (tree_at (states store.now) id)) }
+    requires fit { Fit given (tree_at (states store.now) id) }
+    ensures { IfOk result (λ v. value_at i (node_table given (tree_at (states store.now) id)) ≡ Some v) }
 {
     match store.cell(id, i) {
         Cell::Prim(key) => Ok(Rv::Prim(key.copy(alloc)?)),
@@ -39,11 +40,11 @@ pub fn node_value(
 
 /// Whether the value of an entry is the same as another one.
 pub fn node_same(store: &Store, id: NodeId, given: Given, i: usize, item: &Rv) -> bool
-    requires store { IsStore store.now }
-    requires number { IsNumber store.now id }
-    requires in_range { i < length (cells_of (tree_at store.now id)) }
-    requires fit { Fit given (tree_at store.now id) }
-    ensures { IfSome (value_at i (node_table given (tree_at store.now id))) (λ v. result ≡ same v item.now) }
+    requires store { IsStore (states store.now) }
+    requires number { IsNumber (states store.now) id }
+    requires in_range { i < length (cells_of (tree_at (states store.now) id)) }
+    requires fit { Fit given (tree_at (states store.now) id) }
+    ensures { IfSome (value_at i (node_table given (tree_at (states store.now) id))) (λ v. result ≡ same v item.now) }
 {
     match store.cell(id, i) {
         Cell::Prim(key) => is_key(item, key),
@@ -62,10 +63,10 @@ fn is_key(value: &Rv, key: &Key) -> bool
 
 /// The key of an entry, in a list null.
 pub fn copy_key(alloc: Global, store: &Store, id: NodeId, i: usize) -> Result<Key, AllocError>
-    requires store { IsStore store.now }
-    requires number { IsNumber store.now id }
-    requires in_range { i < length (cells_of (tree_at store.now id)) }
-    ensures { IfOk result (λ k. slice_get (keys_in (branches_of (tree_at store.now id))) i ≡ Some k) }
+    requires store { IsStore (states store.now) }
+    requires number { IsNumber (states store.now) id }
+    requires in_range { i < length (cells_of (tree_at (states store.now) id)) }
+    ensures { IfOk result (λ k. slice_get (keys_in (branches_of (tree_at (states store.now) id))) i ≡ Some k) }
 {
     match store.kind(id) {
         Kind::List => Ok(Key::Null),
@@ -81,11 +82,11 @@ fn node_entry(
     given: Given,
     i: usize,
 ) -> Result<(Key, Rv), AllocError>
-    requires store { IsStore store.now }
-    requires number { IsNumber store.now id }
-    requires in_range { i < length (cells_of (tree_at store.now id)) }
-    requires fit { Fit given (tree_at store.now id) }
-    ensures { IfOk result (λ e. slice_get (node_table given (tree_at store.now id)) i ≡ Some e) }
+    requires store { IsStore (states store.now) }
+    requires number { IsNumber (states store.now) id }
+    requires in_range { i < length (cells_of (tree_at (states store.now) id)) }
+    requires fit { Fit given (tree_at (states store.now) id) }
+    ensures { IfOk result (λ e. slice_get (node_table given (tree_at (states store.now) id)) i ≡ Some e) }
 {
     let key = copy_key(alloc, store, id, i)?;
     let value = node_value(alloc, store, id, given, i)?;
@@ -94,10 +95,10 @@ fn node_entry(
 
 /// The index of the entry with a key.
 pub fn node_position(store: &Store, id: NodeId, given: Given, key: &Key) -> Option<usize>
-    requires store { IsStore store.now }
-    requires number { IsNumber store.now id }
-    requires keyed { kind_of (tree_at store.now id) ≢ kind.List }
-    ensures { result ≡ spec.position key.now (node_table given (tree_at store.now id)) }
+    requires store { IsStore (states store.now) }
+    requires number { IsNumber (states store.now) id }
+    requires keyed { kind_of (tree_at (states store.now) id) ≢ kind.List }
+    ensures { result ≡ spec.position key.now (node_table given (tree_at (states store.now) id)) }
 {
     store.find(id, key)
 }
@@ -109,10 +110,10 @@ pub fn node_content(
     id: NodeId,
     given: Given,
 ) -> Result<Content, AllocError>
-    requires store { IsStore store.now }
-    requires number { IsNumber store.now id }
-    requires fit { Fit given (tree_at store.now id) }
-    ensures { IfOk result (λ c. given_content given (tree_at store.now id) ≡ Some c) }
+    requires store { IsStore (states store.now) }
+    requires number { IsNumber (states store.now) id }
+    requires fit { Fit given (tree_at (states store.now) id) }
+    ensures { IfOk result (λ c. given_content given (tree_at (states store.now) id) ≡ Some c) }
 {
     Ok(Content {
         kind: store.kind(id),
@@ -123,10 +124,10 @@ pub fn node_content(
 }
 
 fn node_entries(alloc: Global, store: &Store, id: NodeId, given: Given) -> Result<Table, AllocError>
-    requires store { IsStore store.now }
-    requires number { IsNumber store.now id }
-    requires fit { Fit given (tree_at store.now id) }
-    ensures { IfOk result (λ t. t ≡ node_table given (tree_at store.now id)) }
+    requires store { IsStore (states store.now) }
+    requires number { IsNumber (states store.now) id }
+    requires fit { Fit given (tree_at (states store.now) id) }
+    ensures { IfOk result (λ t. t ≡ node_table given (tree_at (states store.now) id)) }
 {
     let count = store.count(id);
     let mut entries = Vec::with_capacity(alloc, count)?;

@@ -12,7 +12,7 @@ use Rattle.value_model.specs.Search.{left_true}
 use Rattle.value_model.specs.Well.{well, all_fit, all_well}
 use Rattle.numbered.specs.Tree.{Tree, Branches, prim, node, none, branch, plain, plains}
 use Rattle.node_store.specs.Nodes.{kind_of, keys_of, keys_in, cells_of, cells_in, cell_of}
-use Rattle.node_store.specs.declared.node.Cell.{Cell}
+use Rattle.page_tables.specs.declared.cell.Cell.{Cell}
 use Rattle.host_machine.specs.Flat.{is_integer, is_flat}
 use Rattle.host_machine.specs.Machine.{table_of}
 use Rattle.run_heap.specs.declared.content.Content.{Content}

@@ -17,7 +17,7 @@ use Rattle.numbered.specs.Tree.{Tree, prim, node, branch, own_weight, child_weig
 use Rattle.numbered.specs.Loading.{places, places_in, numbered, numbered_in}
 use Rattle.numbered.specs.Store.{tree_at}
 use Rattle.node_store.specs.Nodes.{is_node, ascending, cell_fits, cells_fit, CellBelow, CellsBelow, cell_tree, branches, built}
-use Rattle.node_store.specs.declared.node.Cell.{Cell}
+use Rattle.page_tables.specs.declared.cell.Cell.{Cell}
 use Rattle.host_machine.specs.Flat.{is_integer, is_text_key, is_field_key, is_flat_table}
 use Rattle.host_machine.proofs.NumberLaws.{flat_places}
 use Rattle.host_engine.specs.Kept.{state_of}

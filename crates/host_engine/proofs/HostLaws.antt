@@ -12,7 +12,7 @@ use Rattle.numbered.specs.Loading.{places, numbered, numbered_in, post_order, po
 use Rattle.numbered.specs.Store.{IsStore, tree_at, used as used_by, is_full}
 use Rattle.numbered.specs.Tree.{Tree, plain, number}
 use Rattle.plain_values.specs.declared.command.Word.TheVariants as word
-use Rattle.plain_values.specs.declared.refusal.Refusal.TheVariants as refusal
+use Rattle.plain_values.specs.declared.cause.Cause.TheVariants as cause
 use Rattle.plain_values.specs.declared.reply.Reply.{Reply}
 use Rattle.plain_values.specs.declared.reply.Reply.TheVariants as reply
 use Rattle.values.specs.declared.patch.Pair.{Pair}
@@ -174,16 +174,16 @@ changed_machine ts us root past seq es new c h f =
 
 -- ---- the reply to a change, by the limit that it is past
 change_accepted : (m m' : Machine) (pair : Pair) (new : Plain) → nat_lt (2 ^ 20) (weight new) ≡ false → is_full_of m (weight new) ≡ false → is_heavy_of (between (value m) new) ≡ false → pair ≡ between (value m) new
-    → m' ≡ with_state m new → (let a : Machine × Reply = (m', reply.Changed word.Apply pair (number m'.state) m'.seq) in a ≡ changed m new)
-change_accepted m m' pair new w f h p e = rw (w, f, h) (λ i. (e i, reply.Changed word.Apply (p i) (number (e i).state) (e i).seq))
+    → m' ≡ with_state m new → (let a : Machine × Reply = (m', reply.Changed word.Apply pair (number m'.state) m'.seq None) in a ≡ changed m new)
+change_accepted m m' pair new w f h p e = rw (w, f, h) (λ i. (e i, reply.Changed word.Apply (p i) (number (e i).state) (e i).seq None))
 
-change_heavy : (m : Machine) (new : Plain) → nat_lt (2 ^ 20) (weight new) ≡ false → is_full_of m (weight new) ≡ false → is_heavy_of (between (value m) new) ≡ true → refused m None refusal.PatchesTooBig ≡ changed m new
+change_heavy : (m : Machine) (new : Plain) → nat_lt (2 ^ 20) (weight new) ≡ false → is_full_of m (weight new) ≡ false → is_heavy_of (between (value m) new) ≡ true → refused m None cause.PatchesTooBig ≡ changed m new
 change_heavy m new w f h = rw (w, f, h) refl
 
-change_full : (m : Machine) (new : Plain) → nat_lt (2 ^ 20) (weight new) ≡ false → is_full_of m (weight new) ≡ true → refused m None refusal.Full ≡ changed m new
+change_full : (m : Machine) (new : Plain) → nat_lt (2 ^ 20) (weight new) ≡ false → is_full_of m (weight new) ≡ true → refused m None cause.Full ≡ changed m new
 change_full m new w f = rw (w, f) refl
 
-change_big : (m : Machine) (new : Plain) → nat_lt (2 ^ 20) (weight new) ≡ true → refused m None refusal.TooBig ≡ changed m new
+change_big : (m : Machine) (new : Plain) → nat_lt (2 ^ 20) (weight new) ≡ true → refused m None cause.TooBig ≡ changed m new
 change_big m new w = rw w refl
 
 -- ---- the steps of the command, where its patches leave these entries of the root draft
@@ -214,13 +214,13 @@ applied_change ts us root ps new c few a k =
 pub applied_nothing : (ts us : List Tree) (root : ℕ) (ps : List Patch) (new : TableOf) → us ≡ ts → IsApplied ts root ps new false → IsUnchanged ts us root ps
 applied_nothing ts us root ps new e a = record { stands = e; step = λ past seq. judged_step ts root past seq ps new false a }
 
-applied_big : (ts us : List Tree) (root : ℕ) (ps : List Patch) (new : TableOf) → IsApplied ts root ps new true → IsBigChange ts us new → IsRefused ts us root ps None refusal.TooBig
+applied_big : (ts us : List Tree) (root : ℕ) (ps : List Patch) (new : TableOf) → IsApplied ts root ps new true → IsBigChange ts us new → IsRefused ts us root ps None cause.TooBig
 applied_big ts us root ps new a k = record {
   stands = k.stands;
   step = λ past seq. change_big (machine_of ts root past seq) (state_of new) k.big ∙ judged_step ts root past seq ps new true a;
 }
 
-applied_full : (ts us : List Tree) (root : ℕ) (ps : List Patch) (new : TableOf) → length ts < 2 ^ 21 → IsApplied ts root ps new true → IsFullChange ts us new → IsRefused ts us root ps None refusal.Full
+applied_full : (ts us : List Tree) (root : ℕ) (ps : List Patch) (new : TableOf) → length ts < 2 ^ 21 → IsApplied ts root ps new true → IsFullChange ts us new → IsRefused ts us root ps None cause.Full
 applied_full ts us root ps new few a k = record {
   stands = k.stands;
   step = λ past seq.
@@ -228,7 +228,7 @@ applied_full ts us root ps new few a k = record {
       change_full (machine_of ts root past seq) (state_of new) small (full_kept ts root past seq new a.entries few ∙ k.full) ∙ judged_step ts root past seq ps new true a;
 }
 
-applied_heavy : (ts us : List Tree) (root : ℕ) (ps : List Patch) (new : TableOf) → length ts < 2 ^ 21 → IsApplied ts root ps new true → IsHeavyChange ts us (table_at ts root) new → IsRefused ts us root ps None refusal.PatchesTooBig
+applied_heavy : (ts us : List Tree) (root : ℕ) (ps : List Patch) (new : TableOf) → length ts < 2 ^ 21 → IsApplied ts root ps new true → IsHeavyChange ts us (table_at ts root) new → IsRefused ts us root ps None cause.PatchesTooBig
 applied_heavy ts us root ps new few a k = record {
   stands = k.stands;
   step = λ past seq.

@@ -3,9 +3,9 @@ use Rattle.std.specs.Prelude.{◌≡◌, ℕ, ◌+◌, min, List, Option, Some, 
 use Rattle.numbered.specs.Tree.{Tree, number}
 use Rattle.values.specs.declared.patch.Patch.{Patch}
 use Rattle.plain_values.specs.declared.command.Word.TheVariants as word
-use Rattle.plain_values.specs.Names.{patch_refusal}
-use Rattle.plain_values.specs.declared.refusal.Refusal.{Refusal}
-use Rattle.plain_values.specs.declared.refusal.Refusal.TheVariants as refusal
+use Rattle.plain_values.specs.Names.{patch_cause}
+use Rattle.plain_values.specs.declared.cause.Cause.{Cause}
+use Rattle.plain_values.specs.declared.cause.Cause.TheVariants as cause
 use Rattle.plain_values.specs.declared.reply.Reply.{Reply}
 use Rattle.plain_values.specs.declared.reply.Reply.TheVariants as reply
 use Rattle.host_machine.specs.Machine.{Machine, apply_step, accepted, no_patches}
@@ -19,22 +19,22 @@ use Rattle.host_engine.specs.declared.change.ChangeStop.TheVariants as change
 use Rattle.host_engine.specs.declared.edits.EditStop.{EditStop}
 use Rattle.host_engine.specs.declared.edits.EditStop.TheVariants as edit
 
--- the refusal of patches that can't be applied, and of a change that is past a limit
+-- the cause for patches that can't be applied, and for a change that is past a limit
 abbrev pub edit_stop : EditStop → Stop
-edit_stop (edit.At at why) = stop.Refused (Some at) (patch_refusal why)
+edit_stop (edit.At at why) = stop.Refused (Some at) (patch_cause why)
 edit_stop edit.Memory = stop.Memory
 
 abbrev pub change_stop : ChangeStop → Stop
-change_stop change.TooBig = stop.Refused None refusal.TooBig
-change_stop change.Full = stop.Refused None refusal.Full
-change_stop change.PatchesTooBig = stop.Refused None refusal.PatchesTooBig
+change_stop change.TooBig = stop.Refused None cause.TooBig
+change_stop change.Full = stop.Refused None cause.Full
+change_stop change.PatchesTooBig = stop.Refused None cause.PatchesTooBig
 change_stop change.Memory = stop.Memory
 
 -- the machine after a change that is kept, with the newest before it up to 100, and the reply
 abbrev pub kept : List Tree → ℕ → ℕ → Change → Machine × Reply
 kept us past seq c =
     let m : Machine = machine_of us c.root (min (past + 1) 100) (seq + 1) in
-    (m, reply.Changed word.Apply c.pair (number m.state) m.seq)
+    (m, reply.Changed word.Apply c.pair (number m.state) m.seq None)
 
 pub record IsAppliedChange (ts us : List Tree) (root : ℕ) (ps : List Patch) (c : Change) : Type 0 where
   pub state : IsFlatState us c.root
@@ -45,7 +45,7 @@ pub record IsUnchanged (ts us : List Tree) (root : ℕ) (ps : List Patch) : Type
   pub stands : us ≡ ts
   pub step : (past seq : ℕ) → accepted (machine_of ts root past seq) no_patches ≡ apply_step (machine_of ts root past seq) ps
 
-pub record IsRefused (ts us : List Tree) (root : ℕ) (ps : List Patch) (at : Option ℕ) (why : Refusal) : Type 0 where
+pub record IsRefused (ts us : List Tree) (root : ℕ) (ps : List Patch) (at : Option ℕ) (why : Cause) : Type 0 where
   pub stands : us ≡ ts
   pub step : (past seq : ℕ) → refused_by (machine_of ts root past seq) at why ≡ apply_step (machine_of ts root past seq) ps
 

@@ -5,8 +5,8 @@ use Rattle.value_model.specs.declared.key.Key.TheVariants.{Null}
 use Rattle.value_model.specs.declared.kind.Kind.TheVariants as kind
 use Rattle.value_model.specs.Plain.{Plain, Table, prim}
 use Rattle.numbered.specs.Tree.{Tree}
-use Rattle.node_store.specs.declared.node.Cell.{Cell}
-use Rattle.node_store.specs.declared.node.Cell.TheVariants as cell
+use Rattle.page_tables.specs.declared.cell.Cell.{Cell}
+use Rattle.page_tables.specs.declared.cell.Cell.TheVariants as cell
 use Rattle.host_machine.specs.Flat.{is_flat_table}
 use Rattle.run_heap.specs.declared.value.Rv.{Rv}
 use Rattle.run_heap.specs.declared.value.Rv.TheVariants.{Prim}

@@ -8,8 +8,8 @@ use Rattle.numbered.specs.Loading.{numbered}
 use Rattle.numbered.specs.Store.{is_full}
 use Rattle.node_store.specs.Added.{state_of as node_state}
 use Rattle.node_store.specs.Nodes.{CellsBelow}
-use Rattle.node_store.specs.declared.node.Cell.{Cell}
-use Rattle.node_store.specs.declared.node.Cell.TheVariants as cell
+use Rattle.page_tables.specs.declared.cell.Cell.{Cell}
+use Rattle.page_tables.specs.declared.cell.Cell.TheVariants as cell
 use Rattle.values.specs.declared.patch.Pair.{Pair}
 use Rattle.host_machine.specs.Differences.{differences}
 use Rattle.host_machine.specs.Machine.{is_heavy}

@@ -1,4 +1,5 @@
 //! The command that applies patches: they edit the root draft of a scope, which is then frozen.
+ghost use Rattle.node_store.specs.Paged.{states};
 ghost use Rattle.std.specs.Prelude.{◌≡◌, IsTrue, None};
 ghost use Rattle.host_machine.specs.Flat.{are_flat};
 ghost use Rattle.host_engine.specs.Applied.{Applies, edit_stop, change_stop};
@@ -8,14 +9,14 @@ use crate::change::{Change, ChangeStop, keep};
 use crate::edits::{EditStop, edit_all};
 use draft_core::{Scope, ScopeTicket};
 use node_store::{NodeId, Store};
-use plain_values::{Patch, Refusal};
+use plain_values::{Cause, Patch};
 use std::alloc::{AllocError, Global};
 
 /// Why a command is not carried out.
 #[derive(Clone, Copy, Debug, Drop, PartialEq, Eq)]
 pub enum Stop {
     /// It is refused, of a patch with its position.
-    Refused { at: Option<u64>, why: Refusal },
+    Refused { at: Option<u64>, why: Cause },
     Memory,
 }
 
@@ -38,9 +39,9 @@ pub fn apply(
     root: NodeId,
     patches: &[Patch],
 ) -> Result<Option<Change>, Stop>
-    requires state { IsFlatState store.old root }
+    requires state { IsFlatState (states store.old) root }
     requires patches { IsTrue (are_flat patches.now) }
-    ensures { Applies store.old store.new root patches.now result }
+    ensures { Applies (states store.old) (states store.new) root patches.now result }
 {
     let mut scope = Scope::begin(alloc, ticket, store, root)?;
     match edit_all(alloc, store, &mut scope, patches) {
@@ -66,7 +67,7 @@ fn fault_of(stop: EditStop) -> Stop
     match stop {
         EditStop::At { at, why } => Stop::Refused {
             at: Some(at),
-            why: Refusal::of_patch(why),
+            why: Cause::of_patch(why),
         },
         EditStop::Memory => Stop::Memory,
     }
@@ -77,14 +78,14 @@ fn limit_of(stop: ChangeStop) -> Stop
     ensures { result ≡ change_stop stop }
 {
     match stop {
-        ChangeStop::TooBig => past_limit(Refusal::TooBig),
-        ChangeStop::Full => past_limit(Refusal::Full),
-        ChangeStop::PatchesTooBig => past_limit(Refusal::PatchesTooBig),
+        ChangeStop::TooBig => past_limit(Cause::TooBig),
+        ChangeStop::Full => past_limit(Cause::Full),
+        ChangeStop::PatchesTooBig => past_limit(Cause::PatchesTooBig),
         ChangeStop::Memory => Stop::Memory,
     }
 }
 
-fn past_limit(why: Refusal) -> Stop
+fn past_limit(why: Cause) -> Stop
     ensures { result ≡ Stop.Refused None why }
 {
     Stop::Refused { at: None, why }

@@ -1,4 +1,5 @@
 //! Keeping a change of a flat root: the root draft is frozen as a node of the store, with the patches there and back.
+ghost use Rattle.node_store.specs.Paged.{states};
 ghost use Rattle.std.specs.Prelude.{◌≡◌, ◌≤◌, ◌<◌, ◌^◌, List, length, map, IfOk, IsTrue};
 ghost use Rattle.std.specs.FinMap.Entries.{is_sorted};
 ghost use Rattle.value_model.specs.Order.{key_cmp};
@@ -68,11 +69,11 @@ pub fn keep(
     root: NodeId,
     table: Table,
 ) -> Result<Change, ChangeStop>
-    requires state { IsFlatState store.old root }
+    requires state { IsFlatState (states store.old) root }
     requires sorted { IsTrue (is_sorted key_cmp (plain_rows table)) }
     requires flat { IsTrue (is_flat_table (plain_rows table)) }
-    ensures change { Changes store.old store.new (table_at store.old root) (plain_rows table) result }
-    ensures few { length store.old < 2 ^ 21 }
+    ensures change { Changes (states store.old) (states store.new) (table_at (states store.old) root) (plain_rows table) result }
+    ensures few { length (states store.old) < 2 ^ 21 }
 {
     let _few = store.len();
     let Plan { node, pair } = plan_change(store, alloc, root, table)?;
@@ -91,10 +92,10 @@ pub fn keep(
 
 /// The node of the table, which takes its keys over, and the patches to it from the state under the number and back.
 fn plan_change(store: &Store, alloc: Global, root: NodeId, table: Table) -> Result<Plan, ChangeStop>
-    requires state { IsFlatState store.now root }
+    requires state { IsFlatState (states store.now) root }
     requires sorted { IsTrue (is_sorted key_cmp (plain_rows table)) }
     requires flat { IsTrue (is_flat_table (plain_rows table)) }
-    ensures { Plans (table_at store.now root) (plain_rows table) result }
+    ensures { Plans (table_at (states store.now) root) (plain_rows table) result }
 {
     let Table { entries } = table;
     let pair = pair_to(store, alloc, root, &entries)?;
@@ -109,10 +110,10 @@ fn pair_to(
     root: NodeId,
     rows: &[(Key, Rv)],
 ) -> Result<Pair, ChangeStop>
-    requires state { IsFlatState store.now root }
+    requires state { IsFlatState (states store.now) root }
     requires sorted { IsTrue (is_sorted key_cmp (plain_rows rows.now)) }
     requires flat { IsTrue (is_flat_table (plain_rows rows.now)) }
-    ensures { Pairs (table_at store.now root) (plain_rows rows.now) result }
+    ensures { Pairs (table_at (states store.now) root) (plain_rows rows.now) result }
 {
     let _in_order = store.len();
     let new = fields_of(alloc, rows)?;

@@ -1,4 +1,5 @@
 //! Patches applied to the root draft of a flat state.
+ghost use Rattle.node_store.specs.Paged.{states};
 ghost use Rattle.std.specs.Prelude.{◌≡◌, ◌∷◌, [], Some, None, MatchOption, IsTrue, OnOk, false};
 ghost use Rattle.value_model.specs.declared.op.Op.TheVariants as op;
 ghost use Rattle.patch_meaning.specs.Applying.{in_object};
@@ -33,10 +34,10 @@ pub fn edit_all(
     scope: &mut Scope,
     patches: &[Patch],
 ) -> Result<(), EditStop>
-    requires scope { IsFlatScope store.now scope.old }
+    requires scope { IsFlatScope (states store.now) scope.old }
     requires patches { IsTrue (are_flat patches.now) }
-    ensures edits { EditsAll (root_in store.now scope.old) (root_in store.now scope.new) patches.now result }
-    ensures scope { OnOk result (IsFlatScope store.now scope.new) }
+    ensures edits { EditsAll (root_in (states store.now) scope.old) (root_in (states store.now) scope.new) patches.now result }
+    ensures scope { OnOk result (IsFlatScope (states store.now) scope.new) }
 {
     for (i, patch) in patches.iter().enumerate() {
         match edit(alloc, store, scope, patch) {
@@ -50,10 +51,10 @@ pub fn edit_all(
 
 /// Applies one patch.
 fn edit(alloc: Global, store: &Store, scope: &mut Scope, patch: &Patch) -> Result<(), EditFault>
-    requires scope { IsFlatScope store.now scope.old }
+    requires scope { IsFlatScope (states store.now) scope.old }
     requires patch { IsTrue (is_flat_patch patch.now) }
-    ensures edits { EditsState (root_in store.now scope.old) (root_in store.now scope.new) patch.now.op patch.now.value patch.now.path result }
-    ensures scope { OnOk result (IsFlatScope store.now scope.new) }
+    ensures edits { EditsState (root_in (states store.now) scope.old) (root_in (states store.now) scope.new) patch.now.op patch.now.value patch.now.path result }
+    ensures scope { OnOk result (IsFlatScope (states store.now) scope.new) }
 {
     let Some(key) = step_in(patch) else {
         unreachable!()
@@ -103,10 +104,10 @@ fn set_entry(
     key: &Key,
     number: Safe,
 ) -> Result<(), EditFault>
-    requires scope { IsFlatScope store.now scope.old }
+    requires scope { IsFlatScope (states store.now) scope.old }
     requires text { IsTrue (is_text_key key.now) }
-    ensures edits { Edits (root_in store.now scope.old) (root_in store.now scope.new) (in_object op.Add key.now (Some (number_of number)) (entries_in (root_in store.now scope.old))) result }
-    ensures scope { OnOk result (IsFlatScope store.now scope.new) }
+    ensures edits { Edits (root_in (states store.now) scope.old) (root_in (states store.now) scope.new) (in_object op.Add key.now (Some (number_of number)) (entries_in (root_in (states store.now) scope.old))) result }
+    ensures scope { OnOk result (IsFlatScope (states store.now) scope.new) }
 {
     let root = scope.root();
     match scope.put(alloc, store, &root, key, Rv::Prim(Key::Int(number))) {
@@ -116,10 +117,10 @@ fn set_entry(
 }
 
 fn unset_entry(alloc: Global, store: &Store, scope: &mut Scope, key: &Key) -> Result<(), EditFault>
-    requires scope { IsFlatScope store.now scope.old }
+    requires scope { IsFlatScope (states store.now) scope.old }
     requires text { IsTrue (is_text_key key.now) }
-    ensures edits { Edits (root_in store.now scope.old) (root_in store.now scope.new) (in_object op.Remove key.now None (entries_in (root_in store.now scope.old))) result }
-    ensures scope { OnOk result (IsFlatScope store.now scope.new) }
+    ensures edits { Edits (root_in (states store.now) scope.old) (root_in (states store.now) scope.new) (in_object op.Remove key.now None (entries_in (root_in (states store.now) scope.old))) result }
+    ensures scope { OnOk result (IsFlatScope (states store.now) scope.new) }
 {
     let root = scope.root();
     match scope.remove(alloc, store, &root, key) {

@@ -1,4 +1,5 @@
 //! The entries of a flat state and of a flat draft.
+ghost use Rattle.node_store.specs.Paged.{states};
 ghost use Rattle.std.specs.Prelude.{◌≡◌, ◌<◌, ◌≤◌, ◌+◌, ◌^◌, map, min, length, false, IsTrue, IfOk, MatchOption, Some, slice_get};
 ghost use Rattle.value_model.specs.Plain.{prim, entries, weights, weight};
 ghost use Rattle.value_model.specs.declared.key.Key.TheVariants as key;
@@ -26,8 +27,8 @@ pub fn fields_at<'a>(
     store: &'a Store,
     root: NodeId,
 ) -> Result<Vec<Field<'a>>, AllocError>
-    requires { IsFlatState store.now root }
-    ensures { IfOk result (λ w. map of_field w.items ≡ table_at store.now root) }
+    requires { IsFlatState (states store.now) root }
+    ensures { IfOk result (λ w. map of_field w.items ≡ table_at (states store.now) root) }
 {
     let count = store.count(root);
     let mut out = Vec::with_capacity(alloc, count)?;
@@ -38,9 +39,9 @@ pub fn fields_at<'a>(
 }
 
 fn field_at<'a>(store: &'a Store, root: NodeId, i: usize) -> Field<'a>
-    requires state { IsFlatState store.now root }
-    requires in_range { i < length (cells_of (tree_at store.now root)) }
-    ensures { slice_get (table_at store.now root) i ≡ Some (of_field result) }
+    requires state { IsFlatState (states store.now) root }
+    requires in_range { i < length (cells_of (tree_at (states store.now) root)) }
+    ensures { slice_get (table_at (states store.now) root) i ≡ Some (of_field result) }
 {
     let key = store.key(root, i);
     let Some(number) = integer_of_cell(store.cell(root, i)) else {

@@ -1,9 +1,11 @@
+ghost use Rattle.node_store.specs.Paged.{states};
 ghost use Rattle.std.specs.Prelude.{◌≡◌, ◌≤◌, ◌<◌, ◌+◌, ◌^◌, IfOk, IfErr, IsTrue, Some, None, min, []};
 ghost use Rattle.value_model.specs.Limits.{state_limit};
 ghost use Rattle.host_machine.specs.Carries.{IsSound};
 ghost use Rattle.host_machine.specs.Flat.{is_flat, is_built, are_flat};
 ghost use Rattle.numbered.specs.Tree.{number};
 ghost use Rattle.plain_values.specs.declared.command.Word.TheVariants as word;
+ghost use Rattle.plain_values.specs.declared.refusal.Refusal.TheVariants as refusal;
 ghost use Rattle.plain_values.specs.declared.reply.Reply.TheVariants as reply;
 ghost use Rattle.value_model.specs.Places.{at};
 ghost use Rattle.host_machine.specs.Paths.{subtree_at};
@@ -14,7 +16,7 @@ use crate::apply::{Stop, apply};
 use crate::places::{number_at, value_at};
 use draft_core::ScopeMint;
 use node_store::{NodeId, Store, StoreFault};
-use plain_values::{Command, Pair, Patches, Path, Refusal, Reply, Val, Word};
+use plain_values::{Cause, Command, Pair, Patches, Path, Refusal, Reply, Val, Word};
 use std::alloc::{AllocError, Global};
 use std::marker::Model;
 
@@ -40,14 +42,15 @@ impl Model for Host {
     ghost use Rattle.numbered.specs.Code.{coded_tree};
     ghost use Rattle.host_machine.specs.Machine.{Turned};
     ghost use Rattle.host_engine.specs.Kept.{IsKept, machine_of};
+    ghost use Rattle.node_store.specs.Paged.{states};
 
     ghost Value = { Turned };
 
     ghost coded = { Prim.hlevel (codes, coded_tree) };
 
-    ghost view = { λ h. record { machine = machine_of h.store h.root h.past h.seq; turns = h.turns } };
+    ghost view = { λ h. record { machine = machine_of (states h.store) h.root h.past h.seq; turns = h.turns } };
 
-    ghost invariant = { λ h. IsKept h.store h.root h.mint h.past h.seq h.turns };
+    ghost invariant = { λ h. IsKept (states h.store) h.root h.mint h.past h.seq h.turns };
 }
 
 impl Host {
@@ -92,6 +95,7 @@ impl Host {
             Command::State { path } => self.state(alloc, path),
             Command::Node { path } => Ok(self.node(path)),
             Command::Stat => Ok(self.stat()),
+            _ => unreachable!(),
         }
     }
 
@@ -125,10 +129,7 @@ impl Host {
                 let reply = host.accepted(no_patches(alloc));
                 Ok((host, reply))
             }
-            Err(Stop::Refused { at, why }) => {
-                let word = Word::Apply;
-                Ok((host, Reply::No { word, at, why }))
-            }
+            Err(Stop::Refused { at, why }) => Ok((host, refused(Word::Apply, at, why))),
             Err(Stop::Memory) => {
                 host.turns -= 1;
                 host.mint = ScopeMint::new();
@@ -197,21 +198,32 @@ impl Host {
         ensures step { (result.0.machine, result.1) ≡ no_path self.machine word }
         ensures turns { result.0.turns ≡ self.turns + 1 }
     {
-        let at = None;
-        let why = Refusal::NoPath;
-        (self.turned(), Reply::No { word, at, why })
+        (self.turned(), refused(word, None, Cause::NoPath))
     }
 
     /// The reply to an accepted command with these patches.
     fn accepted(&self, pair: Pair) -> Reply
-        ensures { result ≡ reply.Changed word.Apply pair (number self.now.machine.state) self.now.machine.seq }
+        ensures { result ≡ reply.Changed word.Apply pair (number self.now.machine.state) self.now.machine.seq None }
     {
         Reply::Changed {
             word: Word::Apply,
             pair,
             root: self.root.get(),
             seq: self.seq,
+            session: None,
         }
+    }
+}
+
+/// The reply to a command that is refused, of a patch with its position.
+fn refused(word: Word, at: Option<u64>, why: Cause) -> Reply
+    ensures { result ≡ reply.No word None at (refusal.Named why) }
+{
+    Reply::No {
+        word,
+        session: None,
+        at,
+        why: Refusal::Named(why),
     }
 }
 
@@ -226,10 +238,10 @@ fn no_patches(alloc: Global) -> Pair
 
 /// Loads the first state, which gets the number 1.
 fn load_first(store: &mut Store, alloc: Global, first: &Val) -> Result<NodeId, AllocError>
-    requires empty { store.old ≡ [] }
+    requires empty { (states store.old) ≡ [] }
     requires accepted { state_limit first.now ≡ None }
     requires flat { IsTrue (is_flat first.now) }
-    ensures { IfOk result (λ id. (id ≡ 1) × (store.new ≡ loaded [] first.now)) }
+    ensures { IfOk result (λ id. (id ≡ 1) × ((states store.new) ≡ loaded [] first.now)) }
 {
     match store.load(alloc, first) {
         Ok(id) => Ok(id),

@@ -1,4 +1,5 @@
 //! What a path leads to in a numbered state that the store keeps.
+ghost use Rattle.node_store.specs.Paged.{states};
 ghost use Rattle.std.specs.Prelude.{◌≡◌, ◌<◌, ℕ, pos, IfSome, IfOk, MatchOption, option_map, ◌∷◌};
 ghost use Rattle.value_model.specs.declared.key.Key.TheVariants as key;
 ghost use Rattle.numbered.specs.Store.{IsNumber, IsStore, tree_at};
@@ -20,8 +21,8 @@ pub fn value_at(
     root: NodeId,
     path: &Path,
 ) -> Result<Option<Val>, AllocError>
-    requires { IsNumber store.now root }
-    ensures { IfOk result (λ v. v ≡ at path.now (plain (tree_at store.now root))) }
+    requires { IsNumber (states store.now) root }
+    ensures { IfOk result (λ v. v ≡ at path.now (plain (tree_at (states store.now) root))) }
 {
     let _in_order = store.len();
     match path.as_slice().split_first() {
@@ -37,9 +38,9 @@ fn value_below(
     first: &Key,
     rest: &[Key],
 ) -> Result<Option<Val>, AllocError>
-    requires store { IsStore store.now }
-    requires number { IsNumber store.now root }
-    ensures { IfOk result (λ v. v ≡ option_map plain (subtree_at (first.now ∷ rest.now) (tree_at store.now root))) }
+    requires store { IsStore (states store.now) }
+    requires number { IsNumber (states store.now) root }
+    ensures { IfOk result (λ v. v ≡ option_map plain (subtree_at (first.now ∷ rest.now) (tree_at (states store.now) root))) }
 {
     match cell_at(store, root, first, rest) {
         Some(cell) => Ok(Some(value_of(store, alloc, cell)?)),
@@ -48,8 +49,8 @@ fn value_below(
 }
 
 fn value_of(store: &Store, alloc: Global, cell: &Cell) -> Result<Val, AllocError>
-    requires { CellBelow store.now cell.now }
-    ensures { IfOk result (λ v. v ≡ plain (cell_tree store.now cell.now)) }
+    requires { CellBelow (states store.now) cell.now }
+    ensures { IfOk result (λ v. v ≡ plain (cell_tree (states store.now) cell.now)) }
 {
     match cell {
         Cell::Prim(key) => Ok(Val::primitive(key.copy(alloc)?)),
@@ -59,8 +60,8 @@ fn value_of(store: &Store, alloc: Global, cell: &Cell) -> Result<Val, AllocError
 
 /// The number of the container at a path of a state, None within where a primitive stands there.
 pub fn number_at(store: &Store, root: NodeId, path: &Path) -> Option<Option<u64>>
-    requires { IsNumber store.now root }
-    ensures { result ≡ option_map number_if (subtree_at path.now (tree_at store.now root)) }
+    requires { IsNumber (states store.now) root }
+    ensures { result ≡ option_map number_if (subtree_at path.now (tree_at (states store.now) root)) }
 {
     let _in_order = store.len();
     match path.as_slice().split_first() {
@@ -70,9 +71,9 @@ pub fn number_at(store: &Store, root: NodeId, path: &Path) -> Option<Option<u64>
 }
 
 fn number_below(store: &Store, root: NodeId, first: &Key, rest: &[Key]) -> Option<Option<u64>>
-    requires store { IsStore store.now }
-    requires number { IsNumber store.now root }
-    ensures { result ≡ option_map number_if (subtree_at (first.now ∷ rest.now) (tree_at store.now root)) }
+    requires store { IsStore (states store.now) }
+    requires number { IsNumber (states store.now) root }
+    ensures { result ≡ option_map number_if (subtree_at (first.now ∷ rest.now) (tree_at (states store.now) root)) }
 {
     match cell_at(store, root, first, rest) {
         Some(cell) => Some(number_of(store, cell)),
@@ -81,9 +82,9 @@ fn number_below(store: &Store, root: NodeId, first: &Key, rest: &[Key]) -> Optio
 }
 
 fn number_of(store: &Store, cell: &Cell) -> Option<u64>
-    requires store { IsStore store.now }
-    requires below { CellBelow store.now cell.now }
-    ensures { result ≡ number_if (cell_tree store.now cell.now) }
+    requires store { IsStore (states store.now) }
+    requires below { CellBelow (states store.now) cell.now }
+    ensures { result ≡ number_if (cell_tree (states store.now) cell.now) }
 {
     match cell {
         Cell::Prim(_) => None,
@@ -93,10 +94,10 @@ fn number_of(store: &Store, cell: &Cell) -> Option<u64>
 
 /// The cell to which a path below a node leads, None exactly where nothing stands there.
 fn cell_at<'a>(store: &'a Store, root: NodeId, first: &Key, rest: &[Key]) -> Option<&'a Cell>
-    requires store { IsStore store.now }
-    requires number { IsNumber store.now root }
-    ensures tree { option_map (λ c. cell_tree store.now c.now) result ≡ subtree_at (first.now ∷ rest.now) (tree_at store.now root) }
-    ensures below { IfSome result (λ c. CellBelow store.now c.now) }
+    requires store { IsStore (states store.now) }
+    requires number { IsNumber (states store.now) root }
+    ensures tree { option_map (λ c. cell_tree (states store.now) c.now) result ≡ subtree_at (first.now ∷ rest.now) (tree_at (states store.now) root) }
+    ensures below { IfSome result (λ c. CellBelow (states store.now) c.now) }
 {
     let mut cell = match child(store, root, first) {
         Some(cell) => cell,
@@ -113,10 +114,10 @@ fn cell_at<'a>(store: &'a Store, root: NodeId, first: &Key, rest: &[Key]) -> Opt
 
 /// The cell to which a step leads.
 fn next<'a>(store: &'a Store, cell: &Cell, step: &Key) -> Option<&'a Cell>
-    requires store { IsStore store.now }
-    requires below { CellBelow store.now cell.now }
-    ensures tree { option_map (λ c. cell_tree store.now c.now) result ≡ subtree step.now (cell_tree store.now cell.now) }
-    ensures below { IfSome result (λ c. CellBelow store.now c.now) }
+    requires store { IsStore (states store.now) }
+    requires below { CellBelow (states store.now) cell.now }
+    ensures tree { option_map (λ c. cell_tree (states store.now) c.now) result ≡ subtree step.now (cell_tree (states store.now) cell.now) }
+    ensures below { IfSome result (λ c. CellBelow (states store.now) c.now) }
 {
     match cell {
         Cell::Prim(_) => None,
@@ -126,10 +127,10 @@ fn next<'a>(store: &'a Store, cell: &Cell, step: &Key) -> Option<&'a Cell>
 
 /// The cell to which a step below a node leads.
 fn child<'a>(store: &'a Store, id: NodeId, step: &Key) -> Option<&'a Cell>
-    requires store { IsStore store.now }
-    requires number { IsNumber store.now id }
-    ensures tree { option_map (λ c. cell_tree store.now c.now) result ≡ subtree step.now (tree_at store.now id) }
-    ensures below { IfSome result (λ c. CellBelow store.now c.now) }
+    requires store { IsStore (states store.now) }
+    requires number { IsNumber (states store.now) id }
+    ensures tree { option_map (λ c. cell_tree (states store.now) c.now) result ≡ subtree step.now (tree_at (states store.now) id) }
+    ensures below { IfSome result (λ c. CellBelow (states store.now) c.now) }
 {
     match entry_at(store, id, step) {
         Some(i) => Some(store.cell(id, i)),
@@ -139,9 +140,9 @@ fn child<'a>(store: &'a Store, id: NodeId, step: &Key) -> Option<&'a Cell>
 
 /// The index of the entry to which a step leads, None exactly where there is none.
 fn entry_at(store: &Store, id: NodeId, step: &Key) -> Option<usize>
-    requires store { IsStore store.now }
-    requires number { IsNumber store.now id }
-    ensures { IsEntry (tree_at store.now id) step.now result }
+    requires store { IsStore (states store.now) }
+    requires number { IsNumber (states store.now) id }
+    ensures { IsEntry (tree_at (states store.now) id) step.now result }
 {
     match store.kind(id) {
         Kind::List => index_in(step, store.count(id)),

@@ -22,9 +22,9 @@ use Rattle.value_model.proofs.Tables.{put_ascends, without_ascends}
 use Rattle.values.specs.declared.patch.Patch.{Patch}
 use Rattle.numbered.specs.Tree.{Tree, plain}
 use Rattle.numbered.proofs.Laws.{plain_numbered}
+use Rattle.plain_values.specs.declared.cause.Cause.TheVariants as cause
 use Rattle.plain_values.specs.declared.command.Command.{Command}
 use Rattle.plain_values.specs.declared.command.Command.TheVariants as command
-use Rattle.plain_values.specs.declared.refusal.Refusal.TheVariants as refusal
 use Rattle.plain_values.specs.declared.reply.Reply.{Reply}
 use Rattle.patch_meaning.specs.Applying.{Fault, applied, applied_from, fault_at, in_object, as_node, patched}
 use Rattle.host_machine.specs.Carries.{IsSound, Carries, CarriesBy}
@@ -153,7 +153,7 @@ pub record IsCarried (m : Machine) (a : Machine × Reply) : Type 0 where
   pub sound : IsSound (value a.0)
 
 changed_at : (m : Machine) (new : Plain) (a b c : Bool) → IsSound (value m) → IsSound new
-    → IsCarried m (cond a (refused m None refusal.TooBig) (cond b (refused m None refusal.Full) (cond c (refused m None refusal.PatchesTooBig) (accepted (with_state m new) (between (value m) new)))))
+    → IsCarried m (cond a (refused m None cause.TooBig) (cond b (refused m None cause.Full) (cond c (refused m None cause.PatchesTooBig) (accepted (with_state m new) (between (value m) new)))))
 changed_at m new true b c s t = record { carries = refl; sound = s }
 changed_at m new false true c s t = record { carries = refl; sound = s }
 changed_at m new false false true s t = record { carries = refl; sound = s }
@@ -186,3 +186,4 @@ step_carried m (command.Apply ps) f s = apply_at m ps f s
 step_carried m (command.State path) f s = state_at m (at path (value m)) s
 step_carried m (command.Node path) f s = node_at m (subtree_at path m.state) s
 step_carried m command.Stat f s = record { carries = refl; sound = s }
+step_carried m _ f s = absurd (cc)

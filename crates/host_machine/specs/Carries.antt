@@ -17,7 +17,7 @@ pub record IsSound (state : Plain) : Type 0 where
 
 -- what a reply says of the states before and after: its patches carry the one to the other, and back
 abbrev pub CarriesBy : Tree → Tree → Reply → Type 0
-CarriesBy old new (reply.Changed word pair root seq) = (applied pair.forward (plain old) ≡ Ok (plain new)) × (applied pair.inverse (plain new) ≡ Ok (plain old))
+CarriesBy old new (reply.Changed word pair root seq session) = (applied pair.forward (plain old) ≡ Ok (plain new)) × (applied pair.inverse (plain new) ≡ Ok (plain old))
 CarriesBy old new _ = new ≡ old
 
 -- of a machine, and of the machine and the reply after a command; every other reply leaves the state with its numbers

@@ -6,6 +6,7 @@ use Rattle.value_model.specs.declared.kind.Kind.TheVariants as kind
 use Rattle.value_model.specs.declared.op.Op.TheVariants.{Add}
 use Rattle.value_model.specs.Plain.{Plain, prim, node, none, entry}
 use Rattle.values.specs.declared.patch.Patch.{Patch}
+use Rattle.plain_values.specs.declared.cause.Cause.TheVariants as cause
 use Rattle.plain_values.specs.declared.command.Command.TheVariants as command
 use Rattle.plain_values.specs.declared.command.Word.TheVariants as word
 use Rattle.plain_values.specs.declared.refusal.Refusal.TheVariants as refusal
@@ -45,6 +46,6 @@ number : (step after (command.Node (n ∷ []))).1 ≡ reply.Node None
 unfolding n one patch after apply_step differences
 number = refl
 
-missing : (step after (command.State (Text (codes "q") ∷ []))).1 ≡ reply.No word.State None refusal.NoPath
+missing : (step after (command.State (Text (codes "q") ∷ []))).1 ≡ reply.No word.State None None (refusal.Named cause.NoPath)
 unfolding n one patch after apply_step differences
 missing = refl

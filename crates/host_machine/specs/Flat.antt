@@ -56,7 +56,10 @@ abbrev pub are_flat : List Patch → Bool
 are_flat [] = true
 are_flat (p ∷ ps) = is_flat_patch p && are_flat ps
 
--- of the commands that are built, `apply` takes such patches alone
+-- the commands that are built: `apply` takes such patches alone
 abbrev pub is_built : Command → Bool
 is_built (command.Apply patches) = are_flat patches
-is_built _ = true
+is_built (command.State path) = true
+is_built (command.Node path) = true
+is_built command.Stat = true
+is_built _ = false

@@ -17,9 +17,10 @@ use Rattle.plain_values.specs.declared.command.Word.{Word}
 use Rattle.plain_values.specs.declared.command.Word.TheVariants as word
 use Rattle.plain_values.specs.declared.reply.Reply.{Reply}
 use Rattle.plain_values.specs.declared.reply.Reply.TheVariants as reply
-use Rattle.plain_values.specs.declared.refusal.Refusal.{Refusal}
+use Rattle.plain_values.specs.declared.cause.Cause.{Cause}
+use Rattle.plain_values.specs.declared.cause.Cause.TheVariants as cause
 use Rattle.plain_values.specs.declared.refusal.Refusal.TheVariants as refusal
-use Rattle.plain_values.specs.Names.{patch_refusal}
+use Rattle.plain_values.specs.Names.{patch_cause}
 use Rattle.patch_meaning.specs.Applying.{Fault, applied, patched}
 use Rattle.host_machine.specs.Differences.{same_table, differences, patches_weight}
 use Rattle.host_machine.specs.Paths.{subtree_at}
@@ -69,12 +70,12 @@ writes (p ∷ ps) x = wrote x (patched p.op p.value p.path x) (writes ps)
 -- ---- the step
 
 -- an `apply` that is refused: the machine stays as it is
-abbrev pub refused : Machine → Option ℕ → Refusal → Machine × Reply
-refused m at why = (m, reply.No word.Apply at why)
+abbrev pub refused : Machine → Option ℕ → Cause → Machine × Reply
+refused m at why = (m, reply.No word.Apply None at (refusal.Named why))
 
 -- the accepted command: the machine then, and its patches there and back
 abbrev pub accepted : Machine → Pair → Machine × Reply
-accepted m pair = (m, reply.Changed word.Apply pair (number m.state) m.seq)
+accepted m pair = (m, reply.Changed word.Apply pair (number m.state) m.seq None)
 
 -- the patches of what is no change: none there, none back
 abbrev pub no_patches : Pair
@@ -100,14 +101,14 @@ is_heavy pair = nat_lt (2 ^ 22) (patches_weight pair.forward + patches_weight pa
 -- a change to a new state, judged by the limits
 abbrev pub changed : Machine → Plain → Machine × Reply
 changed m new =
-    if nat_lt (2 ^ 20) (weight new) then refused m None refusal.TooBig else (
-    if is_full m (weight new) then refused m None refusal.Full else (
-    if is_heavy (between (value m) new) then refused m None refusal.PatchesTooBig else
+    if nat_lt (2 ^ 20) (weight new) then refused m None cause.TooBig else (
+    if is_full m (weight new) then refused m None cause.Full else (
+    if is_heavy (between (value m) new) then refused m None cause.PatchesTooBig else
     accepted (with_state m new) (between (value m) new)))
 
 -- refused at the first fault; a change where the patches wrote; otherwise accepted without patches
 abbrev pub judged : Machine → Bool → Result Plain Fault → Machine × Reply
-judged m written (Err f) = refused m (Some f.at) (patch_refusal f.why)
+judged m written (Err f) = refused m (Some f.at) (patch_cause f.why)
 judged m written (Ok new) = if written then changed m new else accepted m no_patches
 
 -- the step of `apply`
@@ -118,7 +119,7 @@ apply_step m patches = judged m (writes patches (value m)) (applied patches (val
 
 -- nothing stands at the path
 abbrev pub no_path : Machine → Word → Machine × Reply
-no_path m word = (m, reply.No word None refusal.NoPath)
+no_path m word = (m, reply.No word None None (refusal.Named cause.NoPath))
 
 -- the reply to `state`, of what stands at its path
 abbrev pub state_shown : Machine → Option Plain → Machine × Reply
@@ -139,12 +140,18 @@ node_shown m (Some t) = (m, reply.Node (number_if t))
 abbrev pub counted : Machine → Machine × Reply
 counted m = (m, reply.Stat (m.next - 1) 0 m.seq 0 m.past m.used)
 
+-- ---- a command of a form that is not run yet: no host is given one
+
+abbrev pub not_run : Machine → Machine × Reply
+not_run m = (m, reply.No word.Line None None (refusal.Named cause.NotYet))
+
 -- what a command makes of the machine, and its reply
 abbrev pub step : Machine → Command → Machine × Reply
 step m (command.Apply patches) = apply_step m patches
 step m (command.State path) = state_shown m (at path (value m))
 step m (command.Node path) = node_shown m (subtree_at path m.state)
 step m command.Stat = counted m
+step m _ = not_run m
 
 -- a host: its machine, and how many commands it has taken
 pub record Turned : Type 0 where

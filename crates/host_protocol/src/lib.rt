@@ -3,10 +3,13 @@
 //! The definitions stand in `host_protocol_spec`.
 #![tactic(auto)]
 
-mod flat;
-mod forms;
+mod commands;
+mod fault;
+mod members;
 mod read;
+mod refused;
 mod write;
 
-pub use read::{LineFault, read_command};
+pub use fault::LineFault;
+pub use read::{FormedLine, read_command, read_form};
 pub use write::write_reply;

@@ -1,29 +1,37 @@
 //! Replies as lines.
-ghost use Rattle.std.specs.Prelude.{◌≡◌, IfOk, OnOk, string_bytes, Some, None};
-ghost use Rattle.serde.specs.Event.{Logs, Then, field_key};
-ghost use Rattle.serde.specs.declared.name.Case.TheVariants.{AsIs};
-ghost use Rattle.serde_json.specs.Events.{SendsValue, SendsMembers};
+ghost use Rattle.std.specs.Prelude.{◌≡◌, IfOk, OnOk, None, codes, string_bytes};
+ghost use Rattle.serde_json.specs.Data.{object, member};
+ghost use Rattle.serde_json.specs.Events.{SendsValue};
+ghost use Rattle.host_protocol.specs.Spelled.{line_data, spelled_or_null};
+ghost use Rattle.host_protocol_spec.specs.Replies as spec;
+ghost use Rattle.host_protocol_spec.specs.Replies.{reply_data, reply_line};
+ghost use Rattle.value_json_spec.specs.Patches.{patches_data};
+ghost use Rattle.plain_values.specs.declared.command.Word.TheVariants as word;
 ghost use Rattle.plain_values.specs.declared.reply.Reply.TheVariants as reply;
-ghost use Rattle.host_protocol_spec.specs.Replies.{refusal_members, reply_data, reply_line};
 
-use plain_values::{Pair, Refusal, Reply, Val, Word};
+use crate::members::{Place, count_member, member, send_lists, send_pointers, text_member};
+use crate::refused::send_refusal;
+use plain_values::{Pair, Pointers, Reply, Text, Val, Word};
+use pointer_json::PrintedPointers;
 use serde::{Described, Serialize, Serializer};
 use std::alloc::{AllocError, Global};
-use value_json::{Printed, PrintedPatches};
+use value_json::Printed;
 
-/// A reply as its line, to be printed.
+/// A reply as its line, to be printed: `pointer` with its lists of operations as they are spelled.
 #[derive(Drop)]
 struct Line<'a> {
     reply: &'a Reply,
+    patches: Option<PrintedPointers<'a>>,
+    inverse: Option<PrintedPointers<'a>>,
 }
 
 impl Described for Line<'_> {
-    ghost writes = { λ l. SendsValue (reply_data l.reply.now) };
+    ghost writes = { λ l. SendsValue (line_data l) };
 }
 
 impl Serialize for Line<'_> {
     fn serialize<S: Serializer>(&self, out: &mut S) -> Result<(), S::Error> {
-        send_reply(self.reply, out)
+        send_line(self, out)
     }
 }
 
@@ -31,25 +39,87 @@ impl Serialize for Line<'_> {
 pub fn write_reply(alloc: Global, reply: &Reply) -> Result<String, AllocError>
     ensures { IfOk result (λ s. string_bytes s ≡ reply_line reply.now) }
 {
-    match serde_json::to_string(alloc, &Line { reply }) {
+    let line = line_of(alloc, reply)?;
+    match serde_json::to_string(alloc, &line) {
         Ok(text) => Ok(text),
         Err(_) => Err(AllocError),
     }
 }
 
-fn send_reply<S: Serializer>(reply: &Reply, out: &mut S) -> Result<(), S::Error>
-    ensures { OnOk result (SendsValue (reply_data reply.now) (S.written out.old) (S.written out.new)) }
+#[tactic(auto, unfolding(host_protocol_spec::specs::Replies::reply_data))]
+fn line_of(alloc: Global, reply: &Reply) -> Result<Line<'_>, AllocError>
+    ensures { IfOk result (λ l. line_data l ≡ reply_data reply.now) }
 {
     match reply {
+        Reply::Pointed {
+            patches,
+            inverse,
+            ..
+        } => {
+            let patches = spelled(alloc, patches)?;
+            let inverse = spelled(alloc, inverse)?;
+            Ok(Line {
+                reply,
+                patches,
+                inverse,
+            })
+        }
+        _ => Ok(Line {
+            reply,
+            patches: None,
+            inverse: None,
+        }),
+    }
+}
+
+#[tactic(auto, unfolding(host_protocol_spec::specs::Pointers::pointers_data))]
+fn spelled(
+    alloc: Global,
+    list: &Option<Pointers>,
+) -> Result<Option<PrintedPointers<'_>>, AllocError>
+    ensures { IfOk result (λ p. spelled_or_null p ≡ spec.pointers_or_null list.now) }
+{
+    match list {
+        Some(list) => {
+            let list = PrintedPointers::of(alloc, list)?;
+            Ok(Some(list))
+        }
+        None => Ok(None),
+    }
+}
+
+#[tactic(auto, unfolding(host_protocol_spec::specs::Replies::reply_data))]
+fn send_line<S: Serializer>(line: &Line<'_>, out: &mut S) -> Result<(), S::Error>
+    ensures { OnOk result (SendsValue (line_data line.now) (S.written out.old) (S.written out.new)) }
+{
+    match line.reply {
         Reply::Changed {
             word,
             pair,
             root,
             seq,
-        } => send_changed(word, pair, *root, *seq, out),
+            session,
+        } => {
+            let place = Place {
+                root: *root,
+                seq: *seq,
+                session: *session,
+            };
+            send_changed(word, pair, place, out)
+        }
+        Reply::Moved {
+            word,
+            by,
+            pair,
+            root,
+            seq,
+        } => send_moved(word, by, pair, now_at(*root, *seq), out),
+        Reply::Pointed { root, seq, .. } => {
+            send_pointed(&line.inverse, &line.patches, now_at(*root, *seq), out)
+        }
+        Reply::Session { word, session } => send_session(word, *session, out),
         Reply::State { value } => send_state(value, out),
-        Reply::Node { node: Some(number) } => send_node(*number, out),
-        Reply::Node { node: None } => send_no_node(out),
+        Reply::Node { node } => send_node(*node, out),
         Reply::Stat {
             nodes,
             redo,
@@ -68,49 +138,78 @@ fn send_reply<S: Serializer>(reply: &Reply, out: &mut S) -> Result<(), S::Error>
             };
             send_stat(counts, out)
         }
+        Reply::Renew { root } => send_renew(*root, out),
+        Reply::View { total } => send_view(*total, out),
         Reply::No {
             word,
-            at: Some(at),
+            session,
+            at,
             why,
-        } => send_refusal_at(word, *at, why, out),
-        Reply::No {
-            word,
-            at: None,
-            why,
-        } => send_refusal(word, why, out),
+        } => send_refusal(word, *session, *at, why, out),
     }
 }
 
-/// A member of an object: its name, and its value as that is sent.
-fn member<T: Serialize, S: Serializer>(name: &str, value: &T, out: &mut S) -> Result<(), S::Error>
-    ensures { OnOk result (Then (λ old new. Logs old new (field_key name.now AsIs)) (T.writes value.now) (S.written out.old) (S.written out.new)) }
+/// Where the state is, and no session.
+fn now_at(root: u64, seq: u64) -> Place
+    ensures root { result.root ≡ root }
+    ensures seq { result.seq ≡ seq }
+    ensures session { result.session ≡ None }
 {
-    out.key(name)?;
-    value.serialize(out)
+    Place {
+        root,
+        seq,
+        session: None,
+    }
 }
 
-#[tactic(auto, unfolding(host_protocol_spec::specs::Replies::reply_data))]
 fn send_changed<S: Serializer>(
     word: &Word,
     pair: &Pair,
-    root: u64,
-    seq: u64,
+    place: Place,
     out: &mut S,
 ) -> Result<(), S::Error>
-    ensures { OnOk result (SendsValue (reply_data (reply.Changed word.now pair.now root seq)) (S.written out.old) (S.written out.new)) }
+    ensures { OnOk result (SendsValue (object (spec.lists_members (patches_data pair.now.inverse) word.now (patches_data pair.now.forward) (spec.place_members place.root place.seq place.session))) (S.written out.old) (S.written out.new)) }
 {
-    let inverse = PrintedPatches {
-        patches: &pair.inverse,
-    };
-    let forward = PrintedPatches {
-        patches: &pair.forward,
-    };
+    let len = if place.session.is_some() { 6 } else { 5 };
+    out.begin_map(Some(len))?;
+    send_lists(word, pair, place, out)
+}
+
+fn send_moved<S: Serializer>(
+    word: &Word,
+    by: &Option<Text>,
+    pair: &Pair,
+    place: Place,
+    out: &mut S,
+) -> Result<(), S::Error>
+    requires { place.session ≡ None }
+    ensures { OnOk result (SendsValue (object (member (codes "by") (spec.text_or_null by.now) (spec.lists_members (patches_data pair.now.inverse) word.now (patches_data pair.now.forward) (spec.place_members place.root place.seq place.session)))) (S.written out.old) (S.written out.new)) }
+{
+    out.begin_map(Some(6))?;
+    text_member("by", by, out)?;
+    send_lists(word, pair, place, out)
+}
+
+fn send_pointed<S: Serializer>(
+    inverse: &Option<PrintedPointers<'_>>,
+    patches: &Option<PrintedPointers<'_>>,
+    place: Place,
+    out: &mut S,
+) -> Result<(), S::Error>
+    requires { place.session ≡ None }
+    ensures { OnOk result (SendsValue (object (spec.lists_members (spelled_or_null inverse.now) word.Pointer (spelled_or_null patches.now) (spec.place_members place.root place.seq place.session))) (S.written out.old) (S.written out.new)) }
+{
     out.begin_map(Some(5))?;
-    member("inverse", &inverse, out)?;
+    send_pointers(inverse, patches, place, out)
+}
+
+#[tactic(auto, unfolding(host_protocol_spec::specs::Replies::reply_data))]
+fn send_session<S: Serializer>(word: &Word, session: u64, out: &mut S) -> Result<(), S::Error>
+    ensures { OnOk result (SendsValue (reply_data (reply.Session word.now session)) (S.written out.old) (S.written out.new)) }
+{
+    out.begin_map(Some(2))?;
     member("ok", &word.name(), out)?;
-    member("patches", &forward, out)?;
-    member("root", &root, out)?;
-    member("seq", &seq, out)?;
+    member("session", &session, out)?;
     out.end_map()
 }
 
@@ -125,22 +224,32 @@ fn send_state<S: Serializer>(value: &Val, out: &mut S) -> Result<(), S::Error>
 }
 
 #[tactic(auto, unfolding(host_protocol_spec::specs::Replies::reply_data))]
-fn send_node<S: Serializer>(number: u64, out: &mut S) -> Result<(), S::Error>
-    ensures { OnOk result (SendsValue (reply_data (reply.Node (Some number))) (S.written out.old) (S.written out.new)) }
+fn send_node<S: Serializer>(node: Option<u64>, out: &mut S) -> Result<(), S::Error>
+    ensures { OnOk result (SendsValue (reply_data (reply.Node node)) (S.written out.old) (S.written out.new)) }
 {
     out.begin_map(Some(2))?;
-    member("node", &number, out)?;
+    count_member("node", node, out)?;
     member("ok", &Word::Node.name(), out)?;
     out.end_map()
 }
 
 #[tactic(auto, unfolding(host_protocol_spec::specs::Replies::reply_data))]
-fn send_no_node<S: Serializer>(out: &mut S) -> Result<(), S::Error>
-    ensures { OnOk result (SendsValue (reply_data (reply.Node None)) (S.written out.old) (S.written out.new)) }
+fn send_renew<S: Serializer>(root: u64, out: &mut S) -> Result<(), S::Error>
+    ensures { OnOk result (SendsValue (reply_data (reply.Renew root)) (S.written out.old) (S.written out.new)) }
 {
     out.begin_map(Some(2))?;
-    member("node", &(), out)?;
-    member("ok", &Word::Node.name(), out)?;
+    member("ok", &Word::Renew.name(), out)?;
+    member("root", &root, out)?;
+    out.end_map()
+}
+
+#[tactic(auto, unfolding(host_protocol_spec::specs::Replies::reply_data))]
+fn send_view<S: Serializer>(total: u64, out: &mut S) -> Result<(), S::Error>
+    ensures { OnOk result (SendsValue (reply_data (reply.View total)) (S.written out.old) (S.written out.new)) }
+{
+    out.begin_map(Some(2))?;
+    member("ok", &Word::View.name(), out)?;
+    member("total", &total, out)?;
     out.end_map()
 }
 
@@ -155,9 +264,8 @@ struct Counts {
     used: u64,
 }
 
-#[tactic(auto, unfolding(host_protocol_spec::specs::Replies::reply_data))]
 fn send_stat<S: Serializer>(c: Counts, out: &mut S) -> Result<(), S::Error>
-    ensures { OnOk result (SendsValue (reply_data (reply.Stat c.nodes c.redo c.seq c.sessions c.undo c.used)) (S.written out.old) (S.written out.new)) }
+    ensures { OnOk result (SendsValue (object (spec.counts_members c.nodes c.redo c.seq c.sessions c.undo c.used)) (S.written out.old) (S.written out.new)) }
 {
     out.begin_map(Some(7))?;
     member("nodes", &c.nodes, out)?;
@@ -167,36 +275,5 @@ fn send_stat<S: Serializer>(c: Counts, out: &mut S) -> Result<(), S::Error>
     member("sessions", &c.sessions, out)?;
     member("undo", &c.undo, out)?;
     member("used", &c.used, out)?;
-    out.end_map()
-}
-
-#[tactic(auto, unfolding(host_protocol_spec::specs::Replies::reply_data))]
-fn send_refusal_at<S: Serializer>(
-    word: &Word,
-    at: u64,
-    why: &Refusal,
-    out: &mut S,
-) -> Result<(), S::Error>
-    ensures { OnOk result (SendsValue (reply_data (reply.No word.now (Some at) why.now)) (S.written out.old) (S.written out.new)) }
-{
-    out.begin_map(Some(3))?;
-    member("at", &at, out)?;
-    send_why(word, why, out)
-}
-
-#[tactic(auto, unfolding(host_protocol_spec::specs::Replies::reply_data))]
-fn send_refusal<S: Serializer>(word: &Word, why: &Refusal, out: &mut S) -> Result<(), S::Error>
-    ensures { OnOk result (SendsValue (reply_data (reply.No word.now None why.now)) (S.written out.old) (S.written out.new)) }
-{
-    out.begin_map(Some(2))?;
-    send_why(word, why, out)
-}
-
-/// The members `no` and `why`, and the end of the object.
-fn send_why<S: Serializer>(word: &Word, why: &Refusal, out: &mut S) -> Result<(), S::Error>
-    ensures { OnOk result (SendsMembers (refusal_members word.now why.now) (S.written out.old) (S.written out.new)) }
-{
-    member("no", &word.name(), out)?;
-    member("why", &why.name(), out)?;
     out.end_map()
 }

@@ -1,1 +1,3 @@
 pub mod NoFloat
+pub mod PointerLaws
+pub mod ReadingLaws

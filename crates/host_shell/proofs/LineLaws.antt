@@ -4,11 +4,12 @@ use Rattle.std.specs.Prelude.{◌&&◌, Err}
 use Rattle.std.proofs.lemmas.List.Folds.{list_all-append}
 use Rattle.std.proofs.lemmas.List.{length-append}
 use Rattle.std.proofs.lemmas.Bool.Decides.{Decides-ltb}
-use Rattle.plain_values.specs.declared.refusal.Refusal.TheVariants as refusal
+use Rattle.plain_values.specs.declared.cause.Cause.TheVariants as cause
 use Rattle.host_machine.specs.Machine.{Machine}
-use Rattle.host_protocol_spec.specs.Commands.{command_of, is_long_line}
+use Rattle.value_json_spec.specs.Answers.{and_then}
+use Rattle.host_protocol_spec.specs.Commands.{form_of, is_long_line}
 use Rattle.stream_run.specs.Lines.{is_blank, is_space}
-use Rattle.stream_run.specs.Runs.{answer, answer_to}
+use Rattle.stream_run.specs.Runs.{answer, answer_to, run_command, run_form}
 use Rattle.host_shell.specs.Line.{Holds}
 
 take_none : (ys : List ℕ) (k : ℕ) → k ≡ 0 → take k ys ≡ []
@@ -72,22 +73,23 @@ is_long : (xs : List ℕ) → 1048576 < length xs → is_long_line xs ≡ true
 unfolding is_long_line
 is_long xs h = (Decides-ltb 1048576 (length xs)).1 h
 
-long_command : (xs : List ℕ) → is_long_line xs ≡ true → command_of xs ≡ Err refusal.LineTooLong
-unfolding command_of
-long_command xs h = rw h refl
+long_form : (xs : List ℕ) → is_long_line xs ≡ true → form_of xs ≡ Err cause.LineTooLong
+unfolding form_of
+long_form xs h = rw h refl
 
-both_long : (line : List ℕ) → 1048577 < length line → command_of (take 1048577 line) ≡ command_of line
+both_long : (line : List ℕ) → 1048577 < length line → form_of (take 1048577 line) ≡ form_of line
 both_long line h =
     let kept : 1048576 < length (take 1048577 line) = omega (arith, length_take 1048577 line (omega arith)) in
-    long_command (take 1048577 line) (is_long (take 1048577 line) kept) ∙ sym (long_command line (is_long line (omega arith)))
+    long_form (take 1048577 line) (is_long (take 1048577 line) kept) ∙ sym (long_form line (is_long line (omega arith)))
 
-command_at : (line : List ℕ) → (length line ≤ 1048577) ⊎ (1048577 < length line) → command_of (take 1048577 line) ≡ command_of line
-command_at line (inl h) = ap command_of (take_whole 1048577 line h)
-command_at line (inr h) = both_long line h
+form_at : (line : List ℕ) → (length line ≤ 1048577) ⊎ (1048577 < length line) → form_of (take 1048577 line) ≡ form_of line
+form_at line (inl h) = ap form_of (take_whole 1048577 line h)
+form_at line (inr h) = both_long line h
 
-pub command_kept : (line : List ℕ) → command_of (take 1048577 line) ≡ command_of line
-command_kept line = command_at line (total 1048577 (length line))
+pub command_kept : (line : List ℕ) → run_command (take 1048577 line) ≡ run_command line
+unfolding run_command
+command_kept line = ap (and_then run_form) (form_at line (total 1048577 (length line)))
 
 pub answer_kept : (m : Machine) (kept line : List ℕ) → kept ≡ take 1048577 line → answer_to m kept ≡ answer_to m line
 unfolding answer_to
-answer_kept m kept line e = ap (λ (bs : List ℕ). answer m (command_of bs)) e ∙ ap (answer m) (command_kept line)
+answer_kept m kept line e = ap (λ (bs : List ℕ). answer m (run_command bs)) e ∙ ap (answer m) (command_kept line)

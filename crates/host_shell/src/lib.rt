@@ -4,6 +4,7 @@
 #![tactic(auto)]
 
 mod answer;
+mod built;
 mod line;
 mod lines;
 mod send;
@@ -12,7 +13,7 @@ mod top;
 mod words;
 
 pub use host_engine::Host;
-pub use host_protocol::{LineFault, read_command, write_reply};
+pub use host_protocol::{FormedLine, LineFault, read_command, read_form, write_reply};
 pub use lines::serve_lines;
 pub use status::{Status, StatusLine};
 pub use top::serve;

@@ -1,5 +1,5 @@
 -- The state that a node stands for, and that what is held of it is right: laws.
-use Rattle.std.proofs.Common.{◌≡◌, ℕ, suc, ◌+◌, ◌≤◌, List, [], ◌∷◌, length, map, refl, ap, sym, ◌∙◌, subst, arith, true}
+use Rattle.std.proofs.Common.{◌≡◌, ◌≢◌, ℕ, suc, ◌+◌, ◌≤◌, ◌^◌, List, [], ◌∷◌, length, map, refl, ap, sym, ◌∙◌, subst, arith, true}
 use Rattle.std.specs.Prelude.{Bool, ◌&&◌, None}
 use Rattle.std.specs.List.{zip}
 use Rattle.std.specs.Ordering.{is_eq}
@@ -21,19 +21,17 @@ use Rattle.numbered.specs.Tree as tree
 use Rattle.numbered.specs.Tree.{Tree, node, plain, plains, own_weight}
 use Rattle.numbered.specs.Store.{tree_at, IsNext, IsStore}
 use Rattle.numbered.specs.Laws.{well_at}
-use Rattle.numbered.proofs.Laws.{small_state, child_at, some_value, values_le_weight, places_le_values, containers_plain}
-use Rattle.node_store.specs.declared.node.Cell.{Cell}
-use Rattle.node_store.specs.declared.node.Cell.TheVariants as cell
-use Rattle.node_store.specs.declared.node.Node.{Node}
-use Rattle.node_store.specs.declared.held.Held.{Held}
+use Rattle.numbered.proofs.Laws.{small_state, child_at, some_value, values_le_weight, places_le_values, containers_plain, key_weighs}
+use Rattle.page_tables.specs.declared.cell.Cell.{Cell}
+use Rattle.page_tables.specs.declared.cell.Cell.TheVariants as cell
 use Rattle.node_store.specs.declared.held.Measures.{Measures}
-use Rattle.node_store.specs.Nodes.{cells_fit, no_keys, ascending, is_node, key_of, rows, CellBelow, CellsBelow, cell_tree, branches, built}
-use Rattle.node_store.specs.Kept.{sums, IsPaired, tree_of, IsKept}
+use Rattle.node_store.specs.Nodes.{cells_fit, no_keys, ascending, is_node, key_of, rows, CellBelow, CellsBelow, cell_tree, branches, built, formed}
+use Rattle.node_store.specs.Kept.{IsPaired}
 use Rattle.node_store.proofs.Tables.{cells_of_rows, keys_again, all_of_store, zip_keys}
 use Rattle.node_store.proofs.Shown.{own_keys, sorted_alike, list_keys}
 use Rattle.node_store.specs.Sums.{keys_weight, cell_weights, cell_values, deepest_cell, cell_containers, own_weights, IsLight, IsMeasured}
 use Rattle.node_store.proofs.Sums.{weight_built, own_built, values_built, depth_built, containers_built}
-use Rattle.node_store.specs.Added.{stored, IsTallied, IsHolding}
+use Rattle.node_store.specs.Added.{stored, IsTallied, IsSmallTally}
 
 -- ---- what the rule of nodes gives
 same_lengths : (of : Kind) (ks : List Key) (cs : List Cell) → cells_fit of ks cs ≡ true → length ks ≡ length cs
@@ -132,15 +130,12 @@ well_built ts kind.Map ks cs s h b = all_true _ _ _ (zip_ascends ts ks cs (same_
 well_built ts kind.List ks cs s h b = all_true _ _ _ refl (list_fit ts cs) (rows_well ts (rows kind.List ks cs) s b)
 well_built ts kind.Set ks cs s h b = all_true _ _ _ (set_ascends ts ks cs (right_true _ _ h) (left_true _ _ h)) (set_fit ts ks cs (right_true _ _ h)) (rows_well ts (rows kind.Set ks cs) s b)
 
-pub same_state : (ts : List Tree) (h : Held) (ks : List Key) → h.keys.items ≡ stored h.kind ks → tree_of ts h ≡ built ts h.kind ks h.cells.items
-same_state ts h ks e = ap (λ (js : List Key). built ts h.kind js h.cells.items) e ∙ stored_built ts h.kind ks h.cells.items
-
-next_state : (ts : List Tree) (h : Held) (ks : List Key) → IsStore ts → CellsBelow ts h.cells.items → is_node h.kind ks h.cells.items ≡ true → state_limit (plain (built ts h.kind ks h.cells.items)) ≡ None → CellsBelow ts (map (λ r. r.1) (rows h.kind ks h.cells.items)) → IsNext ts (built ts h.kind ks h.cells.items)
-next_state ts h ks s b n l r = record {
+pub next_built : (ts : List Tree) (of : Kind) (ks : List Key) (cs : List Cell) → IsStore ts → is_node of ks cs ≡ true → state_limit (plain (built ts of ks cs)) ≡ None → CellsBelow ts (map (λ r. r.1) (rows of ks cs)) → IsNext ts (built ts of ks cs)
+next_built ts of ks cs s n l r = record {
   number = refl;
-  children = all_of_store ts (rows h.kind ks h.cells.items) s r;
+  children = all_of_store ts (rows of ks cs) s r;
   accepted = l;
-  well = well_built ts h.kind ks h.cells.items s n r;
+  well = well_built ts of ks cs s n r;
 }
 
 same_rows : (of : Kind) (ks : List Key) (cs : List Cell) → rows of (stored of ks) cs ≡ rows of ks cs
@@ -149,26 +144,23 @@ same_rows kind.Map ks cs = refl
 same_rows kind.List ks cs = refl
 same_rows kind.Set ks cs = refl
 
-pub row_cells : (ts : List Tree) (of : Kind) (ks : List Key) (cs : List Cell) → is_node of ks cs ≡ true → CellsBelow ts cs → CellsBelow ts (map (λ r. r.1) (rows of ks cs))
-row_cells ts of ks cs n b = subst (CellsBelow ts) (sym (ap (λ (rs : List (Key × Cell)). map (λ r. r.1) rs) (sym (same_rows of ks cs)) ∙ cells_of_rows of (stored of ks) cs (stored_paired of ks cs n))) b
+-- the cells of a node's entries are its cells
+pub node_cells : (of : Kind) (ks : List Key) (cs : List Cell) → is_node of ks cs ≡ true → map (λ r. r.1) (rows of ks cs) ≡ cs
+node_cells of ks cs n = ap (λ (rs : List (Key × Cell)). map (λ r. r.1) rs) (sym (same_rows of ks cs)) ∙ cells_of_rows of (stored of ks) cs (stored_paired of ks cs n)
 
-pub kept_node : (ts : List Tree) (h : Held) (ks : List Key) → IsStore ts → CellsBelow ts h.cells.items → is_node h.kind ks h.cells.items ≡ true → state_limit (plain (built ts h.kind ks h.cells.items)) ≡ None → IsTallied ts h ks → IsKept ts h
-kept_node ts h ks s b n l t =
-    let cs = h.cells.items in
-    let paired : IsPaired h.kind h.keys.items cs = subst (λ js. IsPaired h.kind js cs) (sym t.keys) (stored_paired h.kind ks cs n) in
-    let same = same_state ts h ks t.keys in
-    let keys : keys_weight h.kind h.keys.items ≡ keys_weight h.kind ks = ap (keys_weight h.kind) t.keys ∙ stored_weight h.kind ks in
-    record {
-      below = b;
-      paired = paired;
-      next = subst (IsNext ts) (sym same) (next_state ts h ks s b n l (row_cells ts h.kind ks cs n b));
-      before = t.before;
-      total = let w = own_built ts h.kind h.keys.items cs paired in let x = t.total in omega (arith, w, x, keys);
-      weight = let w = weight_built ts h.kind h.keys.items cs paired in let x = t.weight in omega (arith, w, x, keys);
-      values = let w = values_built ts h.kind h.keys.items cs paired in let x = t.values in omega (arith, w, x);
-      containers = let w = containers_built ts h.kind h.keys.items cs paired in let x = t.containers in omega (arith, w, x);
-      depth = let w = depth_built ts h.kind h.keys.items cs paired in let x = t.depth in omega (arith, w, x);
-    }
+pub row_cells : (ts : List Tree) (of : Kind) (ks : List Key) (cs : List Cell) → is_node of ks cs ≡ true → CellsBelow ts cs → CellsBelow ts (map (λ r. r.1) (rows of ks cs))
+row_cells ts of ks cs n b = subst (CellsBelow ts) (sym (node_cells of ks cs n)) b
+
+-- a Set's cells under their keys are those under themselves
+own_zip : (cs : List Cell) → zip (map key_of cs) cs ≡ map (λ c. let e : Key × Cell = (key_of c, c) in e) cs
+own_zip [] = refl
+own_zip (c ∷ cs) = ap (λ (rs : List (Key × Cell)). (key_of c, c) ∷ rs) (own_zip cs)
+
+pub zip_rows : (of : Kind) (ks : List Key) (cs : List Cell) → is_node of ks cs ≡ true → of ≢ kind.List → zip ks cs ≡ rows of ks cs
+zip_rows kind.Obj ks cs n d = refl
+zip_rows kind.Map ks cs n d = refl
+zip_rows kind.List ks cs n d = absurd (d refl)
+zip_rows kind.Set ks cs n d = ap (λ (js : List Key). zip js cs) (set_keys ks cs (right_true _ _ n)) ∙ own_zip cs
 
 -- ---- what an accepted node measures
 own_le : (ts : List Tree) (cs : List Cell) → IsStore ts → CellsBelow ts cs → own_weights ts cs ≤ cell_weights ts cs
@@ -208,31 +200,53 @@ light_state ts of ks cs s n b l =
     }
 
 -- the own weight of the state that a node stands for
-pub own_state : (ts : List Tree) (of : Kind) (ks : List Key) (cs : List Cell) → is_node of ks cs ≡ true → own_weight (built ts of ks cs) ≡ 1 + keys_weight of ks + own_weights ts cs
+own_state : (ts : List Tree) (of : Kind) (ks : List Key) (cs : List Cell) → is_node of ks cs ≡ true → own_weight (built ts of ks cs) ≡ 1 + keys_weight of ks + own_weights ts cs
 own_state ts of ks cs n =
     ap own_weight (sym (stored_built ts of ks cs)) ∙ own_built ts of (stored of ks) cs (stored_paired of ks cs n) ∙ ap (λ (n : ℕ). 1 + n + own_weights ts cs) (stored_weight of ks)
 
-tallied : (ts : List Tree) (h : Held) (ks : List Key) (cs : List Cell) (m : Measures) → IsHolding ts h ks cs m → IsMeasured ts h.kind ks cs m → h.before.items ≡ sums ts 0 h.cells.items → IsTallied ts h ks
-tallied ts h ks cs m i d b =
-    let e : cs ≡ h.cells.items = sym i.cells in
+-- what its table measures, its state does
+pub tallied_state : (ts : List Tree) (of : Kind) (ks : List Key) (cs : List Cell) (m : Measures) → is_node of ks cs ≡ true → IsMeasured ts of ks cs m → IsTallied (built ts of ks cs) m
+tallied_state ts of ks cs m n d =
+    let p = stored_paired of ks cs n in
+    let same = ap (λ (t : Tree). plain t) (stored_built ts of ks cs) in
+    let keys = stored_weight of ks in
     record {
-      keys = i.keys;
-      before = b;
-      total = let x = i.total in let y = d.own in let z = ap (own_weights ts) e in omega (arith, x, y, z);
-      weight = let x = i.weight in let y = d.weight in let z = ap (cell_weights ts) e in omega (arith, x, y, z);
-      values = let x = i.values in let y = d.values in let z = ap (cell_values ts) e in omega (arith, x, y, z);
-      containers = let x = i.places in let y = d.places in let z = ap (cell_containers ts) e in omega (arith, x, y, z);
-      depth = let x = i.depth in let y = d.depth in let z = ap (deepest_cell ts) e in omega (arith, x, y, z);
+      own = d.own ∙ sym (own_state ts of ks cs n);
+      weight = d.weight ∙ sym (ap plain_value.weight (sym same) ∙ weight_built ts of (stored of ks) cs p ∙ ap (λ (n : ℕ). 1 + n + cell_weights ts cs) keys);
+      values = d.values ∙ sym (ap plain_value.values (sym same) ∙ values_built ts of (stored of ks) cs p);
+      depth = d.depth ∙ sym (ap plain_value.depth (sym same) ∙ depth_built ts of (stored of ks) cs p);
+      containers = d.places ∙ sym (ap tree.containers (sym (stored_built ts of ks cs)) ∙ containers_built ts of (stored of ks) cs p);
     }
 
-pub kept_from : (ts : List Tree) (h : Held) (ks : List Key) (cs : List Cell) (m : Measures) → IsStore ts → CellsBelow ts cs → is_node h.kind ks cs ≡ true → state_limit (plain (built ts h.kind ks cs)) ≡ None → IsMeasured ts h.kind ks cs m → IsHolding ts h ks cs m → IsKept ts h
-kept_from ts h ks cs m s b n l d i =
-    let e : cs ≡ h.cells.items = sym i.cells in
-    kept_node ts h ks s
-    (subst (CellsBelow ts) e b)
-    (subst (λ ds. is_node h.kind ks ds ≡ true) e n)
-    (subst (λ ds. state_limit (plain (built ts h.kind ks ds)) ≡ None) e l)
-    (tallied ts h ks cs m i d (i.before ∙ ap (sums ts 0) e))
+-- ---- an accepted state is small
+pub small_tally : (ts : List Tree) (of : Kind) (rs : List (Key × Cell)) (m : Measures) → IsNext ts (formed ts of rs) → IsTallied (formed ts of rs) m → IsSmallTally m
+small_tally ts of rs m n t =
+    let v = plain (formed ts of rs) in
+    let small = small_state v n.accepted in
+    let at_most = small.weight in
+    let deep = small.depth in
+    let fewer = values_le_weight v in
+    let fewest = places_le_values v in
+    let counted = containers_plain (formed ts of rs) in
+    let w = t.weight in
+    let x = t.values in
+    let d = t.depth in
+    let c = t.containers in
+    record {
+      weight = omega (arith, w, at_most);
+      values = omega (arith, x, fewer, at_most);
+      depth = omega (arith, d, deep);
+      containers = omega (arith, c, counted, fewest, fewer, at_most);
+    }
 
-pub same_from : (ts : List Tree) (h : Held) (ks : List Key) (cs : List Cell) → h.keys.items ≡ stored h.kind ks → h.cells.items ≡ cs → tree_of ts h ≡ built ts h.kind ks cs
-same_from ts h ks cs a b = same_state ts h ks a ∙ ap (built ts h.kind ks) b
+-- each entry weighs at least 1
+child_weighs : (t : Tree) → 1 ≤ tree.child_weight t
+child_weighs (tree.prim k) = key_weighs k
+child_weighs (node id of es) = omega arith
+
+pub rows_weigh : (ts : List Tree) (of : Kind) (rs : List (Key × Cell)) → length rs ≤ tree.child_weights of (branches ts rs)
+rows_weigh ts of [] = omega arith
+rows_weigh ts of (r ∷ rs) = let one = child_weighs (cell_tree ts r.1) in omega (arith, one, rows_weigh ts of rs)
+
+pub own_small : (ts : List Tree) (of : Kind) (ks : List Key) (cs : List Cell) → IsStore ts → is_node of ks cs ≡ true → CellsBelow ts cs → state_limit (plain (built ts of ks cs)) ≡ None → own_weight (built ts of ks cs) ≤ 2 ^ 20
+own_small ts of ks cs s n b l = let own = own_state ts of ks cs n in let light = (light_state ts of ks cs s n b l).own in omega (arith, own, light)

@@ -1,7 +1,9 @@
 pub mod Added
 pub mod Again
 pub mod Grown
+pub mod Kept
 pub mod Loads
+pub mod Ordered
 pub mod Shown
 pub mod Sums
 pub mod Tables

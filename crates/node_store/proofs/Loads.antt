@@ -23,9 +23,9 @@ use Rattle.numbered.specs.Laws.{Extends}
 use Rattle.numbered.proofs.Laws.{extends_refl, extends_then, extends_append, plain_numbered, plains_numbered, containers_numbered, all_containers_numbered, length_post, length_posts, full_append}
 use Rattle.node_store.specs.declared.fault.StoreFault.{StoreFault}
 use Rattle.node_store.specs.declared.fault.StoreFault.TheVariants.{Full, Memory}
-use Rattle.node_store.specs.declared.node.Cell.{Cell}
+use Rattle.page_tables.specs.declared.cell.Cell.{Cell}
 use Rattle.node_store.specs.declared.node.Node.{Node}
-use Rattle.node_store.specs.declared.node.Cell.TheVariants as cell
+use Rattle.page_tables.specs.declared.cell.Cell.TheVariants as cell
 use Rattle.node_store.specs.Nodes.{cells_fit, ascending, is_node, rows, CellBelow, CellsBelow, cell_tree, branches, built}
 use Rattle.node_store.proofs.Tables.{cells_more, same_branches, keys_again}
 use Rattle.node_store.proofs.Shown.{sorted_alike, list_keys}

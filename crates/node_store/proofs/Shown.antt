@@ -1,44 +1,29 @@
 -- What a held node tells of its state: laws.
-use Rattle.std.proofs.Common.{◌≡◌, ◌≢◌, ℕ, zero, suc, ◌+◌, ◌-◌, ◌<◌, List, [], ◌∷◌, length, get_or, map, take, refl, ap, sym, ◌∙◌, subst, arith, true, false}
-use Rattle.std.specs.Prelude.{Some, None, IsTrue, Bool, slice_get, Result, Ok, Err, MatchOption, option_map}
-use Rattle.std.specs.Result.{result_ok}
-use Rattle.std.specs.Ordering.{is_eq, eq_by_cmp}
-use Rattle.std.specs.List.{zip}
-use Rattle.std.specs.FinMap.Entries.{find, is_sorted, below_all}
-use Rattle.std.proofs.lemmas.Option.{slice_get-get_or, slice_get-map}
-use Rattle.std.proofs.lemmas.Cmp.{tied_itself}
+use Rattle.std.proofs.Common.{◌≡◌, ◌≢◌, ℕ, zero, suc, ◌+◌, ◌-◌, ◌<◌, ◌≤◌, List, [], ◌∷◌, length, get_or, map, refl, ap, sym, ◌∙◌, subst, arith, ◌⊎◌, inl, inr}
+use Rattle.std.specs.Prelude.{Some, slice_get}
+use Rattle.std.specs.FinMap.Entries.{is_sorted, below_all}
 use Rattle.value_model.specs.declared.key.Key.{Key}
-use Rattle.value_model.specs.declared.key.Key.TheVariants as key
 use Rattle.value_model.specs.declared.kind.Kind.{Kind}
 use Rattle.value_model.specs.declared.kind.Kind.TheVariants as kind
-use Rattle.value_model.specs.Order.{key_cmp, key_total, key_exact}
-use Rattle.value_model.specs.Places.{ascends_at}
+use Rattle.value_model.specs.Order.{key_cmp}
 use Rattle.value_model.specs.Plain as plain_value
 use Rattle.value_model.specs.Plain.{Plain, list_of}
-use Rattle.value_model.specs.Search.{IsPlace, left_true, right_true}
-use Rattle.value_model.proofs.Search.{absent_at}
-use Rattle.value_model.specs.Well.{fits, all_fit, well}
 use Rattle.numbered.specs.Tree.{Tree, Branches, prim, node, none, branch, plain, plains, containers, containers_in, branches_of, children, before}
-use Rattle.numbered.specs.Store.{IsNumber, tree_at, IsNext, IsStore}
-use Rattle.numbered.specs.Laws.{well_at, state_at}
-use Rattle.numbered.proofs.Laws.{before_all, small_at, values_at, containers_at}
-use Rattle.node_store.specs.declared.node.Cell.{Cell}
-use Rattle.node_store.specs.declared.node.Cell.TheVariants as cell
+use Rattle.numbered.specs.Store.{IsNumber, tree_at, IsStore}
+use Rattle.numbered.proofs.Laws.{some_value, small_at, values_at, containers_at}
+use Rattle.page_tables.specs.declared.cell.Cell.{Cell}
+use Rattle.page_tables.specs.Pages as pages
+use Rattle.page_tables.specs.Pages.{paged, joined, table, AllBelow}
 use Rattle.node_store.specs.declared.held.Held.{Held}
-use Rattle.node_store.specs.Nodes.{key_of, rows, CellBelow, CellsBelow, cell_tree, branches, cells_in, keys_in, keys_at, kind_of, keys_of, cells_of}
-use Rattle.node_store.specs.Kept.{sums, IsPaired, IsHeld}
-use Rattle.node_store.proofs.Tables.{cells_of_rows, cells_again, keys_again, zip_keys}
-use Rattle.node_store.proofs.Sums.{values_built}
-use Rattle.node_store.specs.Shown.{held_keys, own_pair, cell_pair, HasOrder, IsPrim, ArePrim, HasMembers, AreTexts, HasTexts, IsRead}
+use Rattle.node_store.specs.declared.held.Listed.{Listed}
+use Rattle.node_store.specs.Nodes.{key_of, CellBelow, CellsBelow, cell_tree, branches, cells_in, keys_in, keys_at, kind_of, keys_of, cells_of}
+use Rattle.node_store.specs.Paged.{Paged, standing, states, listed_at, rows_at}
+use Rattle.node_store.specs.Kept.{listed, sums, picked, Sound, InPages}
+use Rattle.node_store.specs.Shown.{IsRow, IsRead}
+use Rattle.node_store.proofs.Grown.{store_of, is_store, held_at, length_listed, listed_get, standing_length, below_at}
+use Rattle.node_store.proofs.Tables.{cells_again, keys_again}
 
--- ---- the cells
-pub rows_below : (us : List Tree) (h : Held) (id : ℕ) → IsHeld us h id → CellsBelow us (map (λ r. r.1) (rows h.kind h.keys.items h.cells.items))
-rows_below us h id k = subst (CellsBelow us) (sym (cells_of_rows h.kind h.keys.items h.cells.items k.paired)) k.below
-
-pub cells_shown : (us : List Tree) (h : Held) (id : ℕ) → IsStore us → IsHeld us h id → cells_of (tree_at us id) ≡ h.cells.items
-cells_shown us h id s k =
-    ap cells_of k.tree ∙ cells_again us (rows h.kind h.keys.items h.cells.items) s (rows_below us h id k) ∙ cells_of_rows h.kind h.keys.items h.cells.items k.paired
-
+-- ---- an entry
 pub cell_below : (us : List Tree) (cs : List Cell) (i : ℕ) (c : Cell) → CellsBelow us cs → slice_get cs i ≡ Some c → CellBelow us c
 cell_below us [] i c b h = absurd (cc)
 cell_below us (d ∷ cs) zero c b h = let e : d ≡ c = cc in subst (CellBelow us) e b.0
@@ -49,24 +34,31 @@ child_at_row us [] i c h = absurd (cc)
 child_at_row us (r ∷ rs) zero c h = let e : r.1 ≡ c = cc in ap (λ (d : Cell). Some (cell_tree us d)) e
 child_at_row us (r ∷ rs) (suc i) c h = child_at_row us rs i c h
 
-pub child_shown : (us : List Tree) (h : Held) (id i : ℕ) (c : Cell) → IsHeld us h id → slice_get h.cells.items i ≡ Some c → slice_get (children (branches_of (tree_at us id))) i ≡ Some (cell_tree us c)
-child_shown us h id i c k g =
-    let mine : slice_get (map (λ r. r.1) (rows h.kind h.keys.items h.cells.items)) i ≡ Some c = rw (cells_of_rows h.kind h.keys.items h.cells.items k.paired) g in
-    ap (λ (t : Tree). slice_get (children (branches_of t)) i) k.tree ∙ child_at_row us (rows h.kind h.keys.items h.cells.items) i c mine
+slice_of_map : {A B : Type 0} (f : A → B) (xs : List A) (i : ℕ) (x : A) → slice_get xs i ≡ Some x → slice_get (map f xs) i ≡ Some (f x)
+slice_of_map f [] i x h = absurd (cc)
+slice_of_map f (y ∷ xs) zero x h = let e : y ≡ x = cc in ap (λ z. Some (f z)) e
+slice_of_map f (y ∷ xs) (suc i) x h = slice_of_map f xs i x h
+
+keyed_keys : (k : Kind) (es : Branches) → k ≢ kind.List → keys_at k es ≡ keys_in es
+keyed_keys kind.Obj es d = refl
+keyed_keys kind.Map es d = refl
+keyed_keys kind.Set es d = refl
+keyed_keys kind.List es d = absurd (d refl)
+
+pub row_shown : (us : List Tree) (t : Tree) (id : ℕ) (k : Kind) (rs : List (Key × Cell)) (i : ℕ) (r : Key × Cell) → IsStore us → t ≡ node id k (branches us rs) → CellsBelow us (map (λ r. r.1) rs) → slice_get rs i ≡ Some r → IsRow us t i r
+row_shown us t id k rs i r s e b h =
+    let cells = slice_of_map (λ (r : Key × Cell). r.1) rs i r h in
+    record {
+      key = λ d. ap (λ (u : Tree). slice_get (keys_of u) i) e ∙ ap (λ (ks : List Key). slice_get ks i) (keyed_keys k (branches us rs) (λ l. d (ap kind_of e ∙ l)) ∙ keys_again us rs) ∙ slice_of_map (λ (r : Key × Cell). r.0) rs i r h;
+      cell = ap (λ (u : Tree). slice_get (cells_of u) i) e ∙ ap (λ (cs : List Cell). slice_get cs i) (cells_again us rs s b) ∙ cells;
+      child = ap (λ (u : Tree). slice_get (children (branches_of u)) i) e ∙ child_at_row us rs i r.1 cells;
+      below = cell_below us (map (λ r. r.1) rs) i r.1 b cells;
+    }
 
 -- ---- the keys
 pub own_keys : (cs : List Cell) → map (λ r. r.0) (map (λ c. let e : Key × Cell = (key_of c, c) in e) cs) ≡ map key_of cs
 own_keys [] = refl
 own_keys (c ∷ cs) = ap (λ (ks : List Key). key_of c ∷ ks) (own_keys cs)
-
-keys_built : (us : List Tree) (kind : Kind) (ks : List Key) (cs : List Cell) → IsPaired kind ks cs → keys_at kind (branches us (rows kind ks cs)) ≡ held_keys kind ks cs
-keys_built us kind.Obj ks cs p = keys_again us (zip ks cs) ∙ zip_keys ks cs p
-keys_built us kind.Map ks cs p = keys_again us (zip ks cs) ∙ zip_keys ks cs p
-keys_built us kind.List ks cs p = refl
-keys_built us kind.Set ks cs p = keys_again us (rows kind.Set ks cs) ∙ own_keys cs
-
-pub keys_shown : (us : List Tree) (h : Held) (id : ℕ) → IsHeld us h id → keys_of (tree_at us id) ≡ held_keys h.kind h.keys.items h.cells.items
-keys_shown us h id k = ap keys_of k.tree ∙ keys_built us h.kind h.keys.items h.cells.items k.paired
 
 -- whether keys ascend doesn't depend on what stands under them
 below_alike : {A B : Type 0} (x : Key) (es : List (Key × A)) (fs : List (Key × B)) → map (λ e. e.0) es ≡ map (λ e. e.0) fs → below_all key_cmp x es ≡ below_all key_cmp x fs
@@ -91,50 +83,6 @@ pub list_keys : (es : Branches) → map (λ e. e.0) (list_of (plains es)) ≡ ke
 list_keys none = refl
 list_keys (branch k v es) = ap (λ (ks : List Key). k ∷ ks) (list_keys es)
 
-pub own_pairs : (ks : List Key) → map (λ e. e.0) (map own_pair ks) ≡ ks
-own_pairs [] = refl
-own_pairs (k ∷ ks) = ap (λ (js : List Key). k ∷ js) (own_pairs ks)
-
-pub cell_pairs : (cs : List Cell) → map (λ e. e.0) (map cell_pair cs) ≡ map key_of cs
-cell_pairs [] = refl
-cell_pairs (c ∷ cs) = ap (λ (js : List Key). key_of c ∷ js) (cell_pairs cs)
-
-order_built : (us : List Tree) (kind : Kind) (ks : List Key) (cs : List Cell) → IsPaired kind ks cs → IsTrue (ascends_at kind (list_of (plains (branches us (rows kind ks cs))))) → HasOrder kind ks cs
-order_built us kind.Obj ks cs p h = sym (sorted_alike (list_of (plains (branches us (zip ks cs)))) (map own_pair ks) (list_keys (branches us (zip ks cs)) ∙ keys_again us (zip ks cs) ∙ zip_keys ks cs p ∙ sym (own_pairs ks))) ∙ h
-order_built us kind.Map ks cs p h = sym (sorted_alike (list_of (plains (branches us (zip ks cs)))) (map own_pair ks) (list_keys (branches us (zip ks cs)) ∙ keys_again us (zip ks cs) ∙ zip_keys ks cs p ∙ sym (own_pairs ks))) ∙ h
-order_built us kind.List ks cs p h = tt
-order_built us kind.Set ks cs p h = sym (sorted_alike (list_of (plains (branches us (rows kind.Set ks cs)))) (map cell_pair cs) (list_keys (branches us (rows kind.Set ks cs)) ∙ keys_again us (rows kind.Set ks cs) ∙ own_keys cs ∙ sym (cell_pairs cs))) ∙ h
-
-pub order_shown : (us : List Tree) (h : Held) (id : ℕ) → IsStore us → IsNumber us id → IsHeld us h id → HasOrder h.kind h.keys.items h.cells.items
-order_shown us h id s n k =
-    let w : IsTrue (well (plain (node id h.kind (branches us (rows h.kind h.keys.items h.cells.items))))) = subst (λ t. IsTrue (well (plain t))) k.tree (well_at us id s n) in
-    order_built us h.kind h.keys.items h.cells.items k.paired (left_true _ _ (left_true _ _ w))
-
-no_member : (k : Key) (t : Tree) (us : List Tree) → IsNext us t → fits kind.Set k (plain t) ≡ true → ⊥
-no_member k (prim j) us n h = n
-no_member k (node id kind es) us n h = absurd (cc)
-
-members_prim : (us : List Tree) (cs : List Cell) → IsStore us → CellsBelow us cs → all_fit kind.Set (plains (branches us (map (λ c. let e : Key × Cell = (key_of c, c) in e) cs))) ≡ true → ArePrim cs
-members_prim us [] s b h = tt
-members_prim us (cell.Prim k ∷ cs) s b h = (tt, members_prim us cs s b.1 (right_true _ _ h))
-members_prim us (cell.Node id ∷ cs) s b h = absurd (no_member key.Null (tree_at us id) (take (id - 1) us) (state_at us id s b.0) (left_true _ _ h))
-
-members_built : (us : List Tree) (kind : Kind) (ks : List Key) (cs : List Cell) → IsStore us → CellsBelow us cs → all_fit kind (plains (branches us (rows kind ks cs))) ≡ true → HasMembers kind cs
-members_built us kind.Set ks cs s b h = members_prim us cs s b h
-members_built us kind.Obj ks cs s b h = tt
-members_built us kind.List ks cs s b h = tt
-members_built us kind.Map ks cs s b h = tt
-
-pub members_shown : (us : List Tree) (h : Held) (id : ℕ) → IsStore us → IsNumber us id → IsHeld us h id → HasMembers h.kind h.cells.items
-members_shown us h id s n k =
-    let w : IsTrue (well (plain (node id h.kind (branches us (rows h.kind h.keys.items h.cells.items))))) = subst (λ t. IsTrue (well (plain t))) k.tree (well_at us id s n) in
-    members_built us h.kind h.keys.items h.cells.items s k.below (right_true _ _ (left_true _ _ w))
-
-pub member_at : (cs : List Cell) (i : ℕ) (d : Cell) → ArePrim cs → i < length cs → IsPrim (get_or cs i d)
-member_at [] i d p h = absurd (omega arith)
-member_at (c ∷ cs) zero d p h = p.0
-member_at (c ∷ cs) (suc i) d p h = member_at cs i d p.1 (omega arith)
-
 pub same_counts : (es : Branches) → length (keys_in es) ≡ length (cells_in es)
 same_counts none = refl
 same_counts (branch k v es) = ap suc (same_counts es)
@@ -149,115 +97,126 @@ pub length_sums : (us : List Tree) (at : ℕ) (cs : List Cell) → length (sums 
 length_sums us at [] = refl
 length_sums us at (c ∷ cs) = ap suc (length_sums us (at + containers (cell_tree us c)) cs)
 
-length_rows : (rs : List (Key × Cell)) → length (map (λ r. r.1) rs) ≡ length rs
+pub length_rows : (rs : List (Key × Cell)) → length (map (λ r. r.1) rs) ≡ length rs
 length_rows [] = refl
 length_rows (r ∷ rs) = ap suc (length_rows rs)
 
-zero_before : (n : ℕ) → 0 + n ≡ n
-zero_before n = omega arith
+pub length_picked : (ns is : List ℕ) → length (picked ns is) ≡ length is
+length_picked ns [] = refl
+length_picked ns (i ∷ is) = ap suc (length_picked ns is)
 
-pub before_shown : (us : List Tree) (h : Held) (id i d : ℕ) → IsHeld us h id → i < length h.cells.items → get_or h.before.items i d ≡ before i (branches_of (tree_at us id))
-before_shown us h id i d k l =
-    let rs = rows h.kind h.keys.items h.cells.items in
-    let same = cells_of_rows h.kind h.keys.items h.cells.items k.paired in
-    let long : length rs ≡ length h.cells.items = sym (length_rows rs) ∙ ap length same in
-    ap (λ (ns : List ℕ). get_or ns i d) (k.before ∙ ap (sums us 0) (sym same)) ∙ sum_at us 0 rs i d (omega (arith, l, long)) ∙ zero_before (before i (branches us rs)) ∙ ap (λ (t : Tree). before i (branches_of t)) (sym k.tree)
+picked_at : (ns is : List ℕ) (j : ℕ) → j < length is → get_or (picked ns is) j 0 ≡ get_or ns (get_or is j 0) 0
+picked_at ns [] j l = absurd (omega (arith, l))
+picked_at ns (i ∷ is) zero l = refl
+picked_at ns (i ∷ is) (suc j) l = picked_at ns is j (omega (arith, l))
 
--- ---- a search
-key_itself : (k : Key) → eq_by_cmp key_cmp k k ≡ true
-key_itself k = ap is_eq (tied_itself key_total k)
+below_get : (m : ℕ) (ns : List ℕ) (j : ℕ) → AllBelow m ns → j < length ns → get_or ns j 0 < m
+below_get m [] j b l = absurd (omega (arith, l))
+below_get m (n ∷ ns) zero b l = b.0
+below_get m (n ∷ ns) (suc j) b l = below_get m ns j b.1 (omega (arith, l))
 
-not_found : (x k : Key) (xs : List Key) → x ≡ k → find key_cmp k (map own_pair (x ∷ xs)) ≡ None → ⊥
-not_found x k xs e h =
-    let yes : eq_by_cmp key_cmp k x ≡ true = ap (eq_by_cmp key_cmp k) e ∙ key_itself k in
-    let some = rw yes at h in
-    cc
+first_of : (ps : List (List (Key × Cell))) → get_or (pages.starts 0 ps) 0 0 ≡ 0
+first_of [] = refl
+first_of (p ∷ ps) = refl
 
-rest_absent : (x k : Key) (xs : List Key) → find key_cmp k (map own_pair (x ∷ xs)) ≡ None → find key_cmp k (map own_pair xs) ≡ None
-rest_absent x k xs h = elim (eq_by_cmp key_cmp k x) as (λ b. eq_by_cmp key_cmp k x ≡ b → find key_cmp k (map own_pair xs) ≡ None) [
-  | true ↦ λ p. absurd (let some = rw p at h in cc)
-  | false ↦ λ p. rw p at h
-] refl
+first_picked : (xs : List ℕ) (ps : List (List (Key × Cell))) → get_or xs 0 0 ≡ 0 → get_or (picked xs (pages.starts 0 ps)) 0 0 ≡ 0
+first_picked xs [] h = refl
+first_picked xs (p ∷ ps) h = h
 
-pub absent_from : (k : Key) (xs : List Key) → find key_cmp k (map own_pair xs) ≡ None → (i : ℕ) → slice_get xs i ≢ Some k
-absent_from k [] h i g = absurd (cc)
-absent_from k (x ∷ xs) h zero g = let e : x ≡ k = cc in not_found x k xs e h
-absent_from k (x ∷ xs) h (suc i) g = absent_from k xs (rest_absent x k xs h) i g
+first_sum : (us : List Tree) (cs : List Cell) → get_or (sums us 0 cs) 0 0 ≡ 0
+first_sum us [] = refl
+first_sum us (c ∷ cs) = refl
 
-pub key_found : (k : Key) (ks : List Key) (r : Result ℕ ℕ) → IsTrue (is_sorted key_cmp (map own_pair ks)) → IsPlace own_pair k ks r → MatchOption (result_ok r) ((i : ℕ) → slice_get ks i ≢ Some k) (λ i. slice_get ks i ≡ Some k)
-key_found k ks (Ok i) s p =
-    let e : k ≡ get_or ks i key.Null = key_exact k (get_or ks i key.Null) (p.same key.Null) in
-    slice_get-get_or ks i key.Null p.in_range ∙ ap (λ (j : Key). Some j) (sym e)
-key_found k ks (Err i) s p = absent_from k ks (absent_at own_pair k ks i key.Null p.past p.in_range (p.above key.Null) s)
+some_start : (ps : List (List (Key × Cell))) → 0 < length (joined ps) → 0 < length (pages.starts 0 ps)
+some_start [] h = absurd (omega (arith, h))
+some_start (p ∷ ps) h = omega arith
 
-same_pairs : (cs : List Cell) → map cell_pair cs ≡ map own_pair (map key_of cs)
-same_pairs [] = refl
-same_pairs (c ∷ cs) = ap (λ (es : List (Key × Plain)). cell_pair c ∷ es) (same_pairs cs)
+no_more : (n : ℕ) → 0 + n ≡ n
+no_more n = omega arith
 
-pub member_found : (k : Key) (cs : List Cell) (r : Result ℕ ℕ) → IsTrue (is_sorted key_cmp (map cell_pair cs)) → IsPlace cell_pair k cs r → MatchOption (result_ok r) ((i : ℕ) → slice_get (map key_of cs) i ≢ Some k) (λ i. slice_get (map key_of cs) i ≡ Some k)
-member_found k cs (Ok i) s p =
-    let d = cell.Prim key.Null in
-    let e : k ≡ key_of (get_or cs i d) = key_exact k (key_of (get_or cs i d)) (p.same d) in
-    slice_get-map key_of cs i ∙ ap (option_map key_of) (slice_get-get_or cs i d p.in_range) ∙ ap (λ (j : Key). Some j) (sym e)
-member_found k cs (Err i) s p =
-    let d = cell.Prim key.Null in
-    absent_from k (map key_of cs) (ap (find key_cmp k) (sym (same_pairs cs)) ∙ absent_at cell_pair k cs i d p.past p.in_range (p.above d) s)
+pub before_shown : (us : List Tree) (rs : List (Key × Cell)) (is : List ℕ) (j : ℕ) → AllBelow (length rs) is → j < length is → get_or (picked (sums us 0 (map (λ r. r.1) rs)) is) j 0 ≡ before (get_or is j 0) (branches us rs)
+before_shown us rs is j b l =
+    picked_at (sums us 0 (map (λ r. r.1) rs)) is j l ∙ sum_at us 0 rs (get_or is j 0) 0 (below_get (length rs) is j b l) ∙ no_more (before (get_or is j 0) (branches us rs))
 
-texts_fit : (us : List Tree) (ks : List Key) (cs : List Cell) → length ks ≡ length cs → all_fit kind.Obj (plains (branches us (zip ks cs))) ≡ true → AreTexts ks
-texts_fit us [] cs p h = tt
-texts_fit us (k ∷ ks) [] p h = absurd (omega arith)
-texts_fit us (key.Text s ∷ ks) (c ∷ cs) p h = (tt, texts_fit us ks cs (omega arith) h)
-texts_fit us (key.Null ∷ ks) (c ∷ cs) p h = absurd (cc)
-texts_fit us (key.Bool b ∷ ks) (c ∷ cs) p h = absurd (cc)
-texts_fit us (key.Int n ∷ ks) (c ∷ cs) p h = absurd (cc)
+-- each entry has a value
+few_entries : (us : List Tree) (rs : List (Key × Cell)) → length rs ≤ plain_value.values_in (plains (branches us rs))
+few_entries us [] = omega arith
+few_entries us (r ∷ rs) = let one = some_value (plain (cell_tree us r.1)) in omega (arith, one, few_entries us rs)
 
-texts_built : (us : List Tree) (of : Kind) (ks : List Key) (cs : List Cell) → IsPaired of ks cs → all_fit of (plains (branches us (rows of ks cs))) ≡ true → HasTexts of ks
-texts_built us kind.Obj ks cs p h = texts_fit us ks cs p h
-texts_built us kind.List ks cs p h = tt
-texts_built us kind.Map ks cs p h = tt
-texts_built us kind.Set ks cs p h = tt
+-- ---- the node of a number
+node_of : (s : Paged) (hs : List Held) (id : ℕ) (d : Held) → s.nodes ≡ listed hs → 1 ≤ id → id ≤ length hs → listed_at s id ≡ (get_or hs (id - 1) d).node
+node_of s hs id d e o l = ap (λ (ns : List Listed). get_or ns (id - 1) (record { kind = kind.Obj; names = []; after = 0 })) e ∙ listed_get hs (id - 1) d (record { kind = kind.Obj; names = []; after = 0 }) (omega (arith, o, l))
 
-texts_shown : (us : List Tree) (h : Held) (id : ℕ) → IsStore us → IsNumber us id → IsHeld us h id → HasTexts h.kind h.keys.items
-texts_shown us h id s n k =
-    let w : IsTrue (well (plain (node id h.kind (branches us (rows h.kind h.keys.items h.cells.items))))) = subst (λ t. IsTrue (well (plain t))) k.tree (well_at us id s n) in
-    texts_built us h.kind h.keys.items h.cells.items k.paired (right_true _ _ (left_true _ _ w))
+pub read_held : (ps : List (List (Key × Cell))) (hs : List Held) (id : ℕ) (d : Held) → Sound ps [] hs → InPages (length ps) 0 (listed hs) → IsNumber (standing ps [] (listed hs)) id → IsRead (record { pages = ps; nodes = listed hs }) (get_or hs (id - 1) d) id
+unfolding states
+read_held ps hs id d sound named n =
+    let s : Paged = record { pages = ps; nodes = listed hs } in
+    let us = standing ps [] (listed hs) in
+    let h = get_or hs (id - 1) d in
+    let qs = paged ps h.node.names in
+    let rs = joined qs in
+    let store = is_store ps hs sound in
+    let k = held_at ps hs id d sound n in
+    let one : 1 ≤ id = n.0 in
+    let most : id ≤ length us = n.1 in
+    let long = standing_length ps [] (listed hs) in
+    let many = length_listed hs in
+    let l : id ≤ length hs = omega (arith, most, long, many) in
+    let here = node_of s hs id d refl one l in
+    let rows_are : rows_at s id ≡ rs = ap (λ (m : Listed). table ps m.names) here in
+    let cells : cells_of (tree_at us id) ≡ map (λ r. r.1) rs = ap cells_of k.tree ∙ cells_again us rs store k.below in
+    record {
+      number = n;
+      kind = ap kind_of k.tree;
+      node = here;
+      names = subst (λ (m : Listed). AllBelow (length ps) m.names) (listed_get hs (id - 1) d d.node (omega (arith, one, l))) (below_at (length ps) 0 (listed hs) (id - 1) d.node named (omega (arith, one, l, many)));
+      branches_are = ap branches_of k.tree ∙ ap (branches us) (sym rows_are);
+      count = k.count ∙ sym (length_rows rs) ∙ ap length (sym cells);
+      rows = ap length rows_are ∙ sym k.count;
+      row_at = λ i r g. row_shown us (tree_at us id) id h.node.kind rs i r store k.tree k.below (ap (λ (qs : List (Key × Cell)). slice_get qs i) (sym rows_are) ∙ g);
+      starts = k.starts;
+      start_in = λ j g. let c = k.count in let e = ap (λ (xs : List ℕ). get_or xs j 0) k.starts in let m = ap length k.starts in let b = below_get (length rs) (pages.starts 0 qs) j k.inside (omega (arith, g, m)) in omega (arith, c, e, b);
+      start_count = ap length k.before ∙ length_picked (sums us 0 (map (λ r. r.1) rs)) (pages.starts 0 qs) ∙ ap length (sym k.starts);
+      some = λ g. let c = k.count in let m = ap length k.starts in let f = some_start qs (omega (arith, g, c)) in omega (arith, f, m);
+      first_start = ap (λ (xs : List ℕ). get_or xs 0 0) k.starts ∙ first_of qs;
+      first_before = ap (λ (xs : List ℕ). get_or xs 0 0) k.before ∙ first_picked (sums us 0 (map (λ r. r.1) rs)) qs (first_sum us (map (λ r. r.1) rs));
+      before_at = λ j g. let m = ap length k.starts in ap (λ (xs : List ℕ). get_or xs j 0) k.before ∙ before_shown us rs (pages.starts 0 qs) j k.inside (omega (arith, g, m)) ∙ (λ i. before (get_or (sym k.starts i) j 0) (branches_of (sym k.tree i)));
+      weight = k.weight;
+      values = k.values;
+      places = k.containers;
+      depth = k.depth;
+      small_weight = (small_at us id store n).weight;
+      small_values = values_at us id store n;
+      small_containers = containers_at us id store n;
+      small_depth = (small_at us id store n).depth;
+      small_count =
+          let few = few_entries us rs in
+          let all = values_at us id store n in
+          let whole = ap (λ (t : Tree). plain_value.values (plain t)) k.tree in
+          let c = k.count in
+          omega (arith, few, all, whole, c);
+    }
 
-ascends_shown : (us : List Tree) (h : Held) (id : ℕ) → IsStore us → IsNumber us id → IsHeld us h id → IsTrue (ascends_at h.kind (list_of (plains (branches us (rows h.kind h.keys.items h.cells.items)))))
-ascends_shown us h id s n k =
-    let w : IsTrue (well (plain (node id h.kind (branches us (rows h.kind h.keys.items h.cells.items))))) = subst (λ t. IsTrue (well (plain t))) k.tree (well_at us id s n) in
-    left_true _ _ (left_true _ _ w)
+pub read_store : (ps : List (List (Key × Cell))) (hs : List Held) (id : ℕ) (d : Held) → Sound ps [] hs → InPages (length ps) 0 (listed hs) → 1 ≤ id → id ≤ length hs → IsRead (store_of ps hs) (get_or hs (id - 1) d) id
+read_store ps hs id d s k o l = read_held ps hs id d s k (o, let long = standing_length ps [] (listed hs) in let many = length_listed hs in omega (arith, l, long, many))
 
-many_children : (es : Branches) → length (children es) ≡ length (cells_in es)
-many_children none = refl
-many_children (branch k v es) = ap suc (many_children es)
+-- ---- places in entries
+pub inside_le : (t : Tree) → containers_in (branches_of t) ≤ containers t
+inside_le (prim k) = omega arith
+inside_le (node id of es) = omega arith
 
-all_before_shown : (t : Tree) (cs : List Cell) → cells_of t ≡ cs → before (length cs) (branches_of t) ≡ containers_in (branches_of t)
-all_before_shown t cs e = ap (λ (n : ℕ). before n (branches_of t)) (ap length (sym e) ∙ sym (many_children (branches_of t))) ∙ before_all (branches_of t)
+before_past : (i : ℕ) (es : Branches) → length (cells_in es) ≤ i → before i es ≡ containers_in es
+before_past zero none h = refl
+before_past (suc i) none h = refl
+before_past zero (branch k v es) h = absurd (omega (arith, h))
+before_past (suc i) (branch k v es) h = ap (λ (n : ℕ). containers v + n) (before_past i es (omega (arith, h)))
 
-pub read_held : (us : List Tree) (h : Held) (id : ℕ) → IsStore us → IsNumber us id → IsHeld us h id → IsRead us h id
-read_held us h id s n k = record {
-  number = n;
-  kind = ap kind_of k.tree;
-  cells = cells_shown us h id s k;
-  keys = keys_shown us h id k;
-  below = k.below;
-  paired = k.paired;
-  order = order_shown us h id s n k;
-  members = members_shown us h id s n k;
-  child_at = λ i c g. child_shown us h id i c k g;
-  sum_count = ap length k.before ∙ length_sums us 0 h.cells.items;
-  before_at = λ i d l. before_shown us h id i d k l;
-  all_before = all_before_shown (tree_at us id) h.cells.items (cells_shown us h id s k);
-  weight = k.weight;
-  values = k.values;
-  places = k.containers;
-  depth = k.depth;
-  value = ap plain k.tree;
-  ascends = ascends_shown us h id s n k;
-  texts = texts_shown us h id s n k;
-  inside = ap plain_value.values (ap plain k.tree) ∙ values_built us h.kind h.keys.items h.cells.items k.paired;
-  small_weight = (small_at us id s n).weight;
-  small_values = values_at us id s n;
-  small_containers = containers_at us id s n;
-  small_depth = (small_at us id s n).depth;
-}
+-- an entry before which there are not all places is there
+pub past_entry : (t : Tree) (i n : ℕ) → before i (branches_of t) ≤ n → n < containers_in (branches_of t) → i < length (cells_of t)
+past_entry t i n h l = elim (sides i (length (cells_of t))) [
+  | inl less ↦ less
+  | inr past ↦ let e = before_past i (branches_of t) past in absurd (omega (arith, e, h, l))
+]
+  where
+    sides : (i j : ℕ) → (i < j) ⊎ (j ≤ i)
+    sides i j = grind arith

@@ -6,7 +6,7 @@ use Rattle.value_model.specs.declared.kind.Kind.TheVariants as kind
 use Rattle.value_model.specs.Plain as plain_value
 use Rattle.numbered.specs.Tree as tree
 use Rattle.numbered.specs.Tree.{Tree, plain, plains, child_weights, own_weight}
-use Rattle.node_store.specs.declared.node.Cell.{Cell}
+use Rattle.page_tables.specs.declared.cell.Cell.{Cell}
 use Rattle.node_store.specs.Nodes.{cell_tree, branches, rows, built}
 use Rattle.node_store.specs.Kept.{IsPaired}
 use Rattle.node_store.proofs.Tables.{cells_of_rows, zip_keys}

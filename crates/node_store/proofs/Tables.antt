@@ -9,9 +9,9 @@ use Rattle.numbered.specs.Tree.{Tree, prim, node, branch, containers, number}
 use Rattle.numbered.specs.Store.{tree_at, IsNext, IsStore, IsOf, AllOf}
 use Rattle.numbered.specs.Laws.{Extends, state_at}
 use Rattle.numbered.proofs.Laws.{number_at, of_number}
-use Rattle.node_store.specs.declared.node.Cell.{Cell}
-use Rattle.node_store.specs.declared.node.Cell.TheVariants as cell
-use Rattle.node_store.specs.Nodes.{key_of, rows, CellBelow, CellsBelow, cell_tree, branches, cell_of, cells_in, keys_in}
+use Rattle.page_tables.specs.declared.cell.Cell.{Cell}
+use Rattle.page_tables.specs.declared.cell.Cell.TheVariants as cell
+use Rattle.node_store.specs.Nodes.{key_of, null_row, rows, CellBelow, CellsBelow, cell_tree, branches, cell_of, cells_in, keys_in}
 use Rattle.node_store.specs.Kept.{sums, IsPaired}
 
 -- ---- a store that grew
@@ -33,7 +33,7 @@ zip_cells [] (c ∷ cs) p = absurd (omega arith)
 zip_cells (k ∷ ks) [] p = absurd (omega arith)
 zip_cells (k ∷ ks) (c ∷ cs) p = ap (λ (ds : List Cell). c ∷ ds) (zip_cells ks cs (omega arith))
 
-null_cells : (cs : List Cell) → map (λ r. r.1) (map (λ c. let e : Key × Cell = (key.Null, c) in e) cs) ≡ cs
+null_cells : (cs : List Cell) → map (λ r. r.1) (map null_row cs) ≡ cs
 null_cells [] = refl
 null_cells (c ∷ cs) = ap (λ (ds : List Cell). c ∷ ds) (null_cells cs)
 

@@ -1,19 +1,18 @@
 -- Loading, step by step: what was loaded, and what the rest will add.
-use Rattle.std.proofs.Common.{◌≡◌, zero, suc, ◌+◌, ◌-◌, List, [], ◌++◌, length, map, true, false}
+use Rattle.std.proofs.Common.{◌≡◌, ◌+◌, List, ◌++◌, length, map, true, false}
 use Rattle.std.specs.Prelude.{Bool, None, ⊤, Result, MatchResult}
 use Rattle.value_model.specs.declared.key.Key.{Key}
 use Rattle.value_model.specs.Limits.{value_limit}
 use Rattle.value_model.specs.Plain as plain_value
 use Rattle.value_model.specs.Plain.{Plain, Entries, entries}
-use Rattle.numbered.specs.Tree.{Tree, Branches, node, none, branch}
+use Rattle.numbered.specs.Tree.{Tree, Branches, none, branch}
 use Rattle.numbered.specs.Loading.{numbered, numbered_in, post_orders, loaded, any_full, load_full}
 use Rattle.numbered.specs.Laws.{Extends}
 use Rattle.node_store.specs.declared.fault.StoreFault.{StoreFault}
 use Rattle.node_store.specs.declared.fault.StoreFault.TheVariants.{Full}
-use Rattle.node_store.specs.declared.node.Cell.{Cell}
-use Rattle.node_store.specs.declared.node.Node.{Node}
-use Rattle.node_store.specs.declared.node.Cell.TheVariants as cell
-use Rattle.node_store.specs.Nodes.{rows, CellBelow, CellsBelow, cell_tree, branches}
+use Rattle.page_tables.specs.declared.cell.Cell.{Cell}
+use Rattle.page_tables.specs.declared.cell.Cell.TheVariants as cell
+use Rattle.node_store.specs.Nodes.{CellBelow, CellsBelow, cell_tree, branches}
 
 -- the cell stands for a node
 abbrev pub IsNode : Cell → Type 0

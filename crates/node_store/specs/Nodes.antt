@@ -10,8 +10,8 @@ use Rattle.value_model.specs.declared.kind.Kind.TheVariants as kind
 use Rattle.value_model.specs.Order.{key_cmp}
 use Rattle.numbered.specs.Tree.{Tree, Branches, prim, node, none, branch, branches_of}
 use Rattle.numbered.specs.Store.{IsNumber, tree_at}
-use Rattle.node_store.specs.declared.node.Cell.{Cell}
-use Rattle.node_store.specs.declared.node.Cell.TheVariants as cell
+use Rattle.page_tables.specs.declared.cell.Cell.{Cell}
+use Rattle.page_tables.specs.declared.cell.Cell.TheVariants as cell
 
 -- an object's key is a text, and in a Set each cell is its key
 abbrev pub cell_fits : Kind → Key → Cell → Bool
@@ -42,13 +42,18 @@ abbrev pub is_node : Kind → List Key → List Cell → Bool
 is_node kind.List ks cs = no_keys ks
 is_node kind ks cs = ascending ks && cells_fit kind ks cs
 
--- the entries of a table: in a list under null, in a Set each member under itself
+-- the key of a member
 abbrev pub key_of : Cell → Key
 key_of (cell.Prim k) = k
 key_of (cell.Node id) = key.Null
 
+-- an entry of a list
+abbrev pub null_row : Cell → Key × Cell
+null_row c = (key.Null, c)
+
+-- the entries of a table: in a list under null, in a Set each member under itself
 abbrev pub rows : Kind → List Key → List Cell → List (Key × Cell)
-rows kind.List ks cs = map (λ c. let e : Key × Cell = (key.Null, c) in e) cs
+rows kind.List ks cs = map null_row cs
 rows kind.Set ks cs = map (λ c. let e : Key × Cell = (key_of c, c) in e) cs
 rows _ ks cs = zip ks cs
 
@@ -70,9 +75,13 @@ abbrev pub branches : List Tree → List (Key × Cell) → Branches
 branches ts [] = none
 branches ts (r ∷ rs) = branch r.0 (cell_tree ts r.1) (branches ts rs)
 
+-- the state that entries stand for, if they are added to these
+abbrev pub formed : List Tree → Kind → List (Key × Cell) → Tree
+formed ts kind rs = node (length ts + 1) kind (branches ts rs)
+
 -- the state that a table stands for, if it is added to these
 abbrev pub built : List Tree → Kind → List Key → List Cell → Tree
-built ts kind ks cs = node (length ts + 1) kind (branches ts (rows kind ks cs))
+built ts kind ks cs = formed ts kind (rows kind ks cs)
 
 -- ---- the node of a state
 abbrev pub kind_of : Tree → Kind

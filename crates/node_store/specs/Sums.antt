@@ -7,7 +7,7 @@ use Rattle.value_model.specs.Plain as plain_value
 use Rattle.value_model.specs.Plain.{key_weight, place_weight}
 use Rattle.numbered.specs.Tree as tree
 use Rattle.numbered.specs.Tree.{Tree, plain, child_weight}
-use Rattle.node_store.specs.declared.node.Cell.{Cell}
+use Rattle.page_tables.specs.declared.cell.Cell.{Cell}
 use Rattle.node_store.specs.declared.held.Measures.{Measures}
 use Rattle.node_store.specs.Nodes.{cell_tree}
 

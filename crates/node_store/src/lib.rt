@@ -1,25 +1,29 @@
 //! Frozen nodes under numbers from 1, children before parents: the states that a host keeps, each node once.
 //!
-//! A contract sees a store as the list of the numbered states that its numbers stand for; `kind_of`, `keys_of` and
-//! `cells_of` give the node of a state, so that the list of states is the list of nodes. How the tables of the nodes are
-//! held shows in no contract.
+//! A contract sees a store as its pages and its nodes, each with its kind, its page numbers and how many pages there were
+//! after its addition. `states` gives the numbered states that the numbers stand for: the clauses of all calls but those on
+//! pages speak of these alone. `kind_of`, `keys_of` and `cells_of` give the node of a state, so that the list of states is
+//! the list of nodes.
 #![tactic(auto)]
 
 mod add;
+mod entries;
 mod fault;
 mod held;
 mod laws;
 mod load;
 mod node;
+mod places;
 mod reads;
-mod search;
 mod store;
 mod table;
 mod tally;
 mod unfold;
 
 pub use fault::StoreFault;
+pub use held::{Listed, Names};
 pub use laws::{law_load_full, law_loading, law_numbered_states, law_states_are_nodes};
-pub use node::{Cell, Cells, Keys, Node, NodeId};
+pub use node::{Cells, Keys, Node};
+pub use page_tables::{Cell, NodeId};
 pub use store::{Mark, Store};
 pub use value_model::Kind;

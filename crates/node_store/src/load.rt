@@ -11,12 +11,14 @@ ghost use Rattle.numbered.specs.Loading.{loaded, load_full};
 ghost use Rattle.numbered.specs.Store.{tree_at};
 ghost use Rattle.numbered.specs.Tree.{plain};
 ghost use Rattle.node_store.specs.Loads.{IsNode, Loads, LoadsTable, AreLoaded, Refused, full_in, AllWithin};
-ghost use Rattle.node_store.specs.declared.node.Cell.TheVariants as variant;
+ghost use Rattle.node_store.specs.Paged.{states, IsLonger};
+ghost use Rattle.page_tables.specs.declared.cell.Cell.TheVariants as variant;
 
 use crate::fault::StoreFault;
-use crate::node::{Cell, Cells, Keys, Node, NodeId};
+use crate::node::{Cells, Keys, Node};
 use crate::store::Store;
 use crate::table::Table;
+use page_tables::{Cell, NodeId};
 use std::alloc::{AllocError, Global};
 use value_model::{Key, Kind};
 use values::{Entry, Field, Val};
@@ -28,10 +30,11 @@ impl Store {
     /// `Full` exactly where one of these additions would be; the store is then as before, as it is where memory ran out.
     pub fn load(&mut self, alloc: Global, v: &Val) -> Result<NodeId, StoreFault>
         requires { state_limit v.now ≡ None }
-        ensures ok { IfOk result (λ id. (id ≡ length self.new) × (self.new ≡ loaded self.old v.now)) }
-        ensures value { IfOk result (λ id. plain (tree_at self.new id) ≡ v.now) }
-        ensures room { OnOk result (load_full self.old v.now ≡ false) }
-        ensures only { IsErrOf result StoreFault.Full → load_full self.old v.now ≡ true }
+        ensures ok { IfOk result (λ id. (id ≡ length (states self.new)) × ((states self.new) ≡ loaded (states self.old) v.now)) }
+        ensures value { IfOk result (λ id. plain (tree_at (states self.new) id) ≡ v.now) }
+        ensures room { OnOk result (load_full (states self.old) v.now ≡ false) }
+        ensures only { IsErrOf result StoreFault.Full → load_full (states self.old) v.now ≡ true }
+        ensures longer { IfOk result (λ _. IsLonger self.old self.new) }
         ensures stands { OnErr result (self.new ≡ self.old) }
     {
         let mark = self.mark();
@@ -59,7 +62,8 @@ fn number_of(cell: Cell) -> NodeId
 #[cycle(load)]
 fn load_cell(store: &mut Store, alloc: Global, v: &Val) -> Result<Cell, StoreFault>
     requires { value_limit v.now ≡ None }
-    ensures { Loads result store.old store.new v.now }
+    ensures done { Loads result (states store.old) (states store.new) v.now }
+    ensures longer { IsLonger store.old store.new }
 {
     match &v.node {
         values::ValNode::Prim(key) => Ok(Cell::Prim(key.copy(alloc)?)),
@@ -74,7 +78,8 @@ fn load_cell(store: &mut Store, alloc: Global, v: &Val) -> Result<Cell, StoreFau
 fn load_object(store: &mut Store, alloc: Global, fields: &Vec<Field>) -> Result<Cell, StoreFault>
     requires accepted { value_limit (plain_value.node kind.Obj (of_fields fields.now.items)) ≡ None }
     requires sorted { IsTrue (is_sorted key_cmp (map of_field fields.now.items)) }
-    ensures { Loads result store.old store.new (plain_value.node kind.Obj (of_fields fields.now.items)) }
+    ensures done { Loads result (states store.old) (states store.new) (plain_value.node kind.Obj (of_fields fields.now.items)) }
+    ensures longer { IsLonger store.old store.new }
 {
     let table = load_fields(store, alloc, fields)?;
     let id = store.add(alloc, table.into_node(Kind::Obj))?;
@@ -84,7 +89,8 @@ fn load_object(store: &mut Store, alloc: Global, fields: &Vec<Field>) -> Result<
 #[cycle(load)]
 fn load_fields(store: &mut Store, alloc: Global, fields: &Vec<Field>) -> Result<Table, StoreFault>
     requires { AllWithin (of_fields fields.now.items) }
-    ensures { LoadsTable result store.old store.new (of_fields fields.now.items) }
+    ensures done { LoadsTable result (states store.old) (states store.new) (of_fields fields.now.items) }
+    ensures longer { IsLonger store.old store.new }
 {
     let mut table = Table::with_capacity(alloc, fields.len())?;
     for f in fields {
@@ -99,7 +105,8 @@ fn load_fields(store: &mut Store, alloc: Global, fields: &Vec<Field>) -> Result<
 fn load_map(store: &mut Store, alloc: Global, entries: &Vec<Entry>) -> Result<Cell, StoreFault>
     requires accepted { value_limit (plain_value.node kind.Map (of_entries entries.now.items)) ≡ None }
     requires sorted { IsTrue (is_sorted key_cmp (map of_entry entries.now.items)) }
-    ensures { Loads result store.old store.new (plain_value.node kind.Map (of_entries entries.now.items)) }
+    ensures done { Loads result (states store.old) (states store.new) (plain_value.node kind.Map (of_entries entries.now.items)) }
+    ensures longer { IsLonger store.old store.new }
 {
     let table = load_entries(store, alloc, entries)?;
     let id = store.add(alloc, table.into_node(Kind::Map))?;
@@ -109,7 +116,8 @@ fn load_map(store: &mut Store, alloc: Global, entries: &Vec<Entry>) -> Result<Ce
 #[cycle(load)]
 fn load_entries(store: &mut Store, alloc: Global, entries: &Vec<Entry>) -> Result<Table, StoreFault>
     requires { AllWithin (of_entries entries.now.items) }
-    ensures { LoadsTable result store.old store.new (of_entries entries.now.items) }
+    ensures done { LoadsTable result (states store.old) (states store.new) (of_entries entries.now.items) }
+    ensures longer { IsLonger store.old store.new }
 {
     let mut table = Table::with_capacity(alloc, entries.len())?;
     for e in entries {
@@ -123,7 +131,8 @@ fn load_entries(store: &mut Store, alloc: Global, entries: &Vec<Entry>) -> Resul
 #[cycle(load)]
 fn load_list(store: &mut Store, alloc: Global, items: &Vec<Val>) -> Result<Cell, StoreFault>
     requires { value_limit (plain_value.node kind.List (of_items items.now.items)) ≡ None }
-    ensures { Loads result store.old store.new (plain_value.node kind.List (of_items items.now.items)) }
+    ensures done { Loads result (states store.old) (states store.new) (plain_value.node kind.List (of_items items.now.items)) }
+    ensures longer { IsLonger store.old store.new }
 {
     let cells = Cells::from_vec(load_items(store, alloc, items)?);
     let keys = Keys::from_vec(Vec::new(alloc));
@@ -141,7 +150,8 @@ fn load_list(store: &mut Store, alloc: Global, items: &Vec<Val>) -> Result<Cell,
 #[cycle(load)]
 fn load_items(store: &mut Store, alloc: Global, items: &Vec<Val>) -> Result<Vec<Cell>, StoreFault>
     requires { AllWithin (of_items items.now.items) }
-    ensures { MatchResult result (λ cs. AreLoaded store.old (of_items items.now.items) store.new (rows kind.List [] cs.items)) (λ e. Refused store.old store.new (full_in store.old (of_items items.now.items)) e) }
+    ensures done { MatchResult result (λ cs. AreLoaded (states store.old) (of_items items.now.items) (states store.new) (rows kind.List [] cs.items)) (λ e. Refused (states store.old) (states store.new) (full_in (states store.old) (of_items items.now.items)) e) }
+    ensures longer { IsLonger store.old store.new }
 {
     let mut cells = Vec::with_capacity(alloc, items.len())?;
     for v in items {
@@ -154,7 +164,8 @@ fn load_items(store: &mut Store, alloc: Global, items: &Vec<Val>) -> Result<Vec<
 fn load_set(store: &mut Store, alloc: Global, members: &Vec<Key>) -> Result<Cell, StoreFault>
     requires accepted { value_limit (plain_value.node kind.Set (of_members members.now.items)) ≡ None }
     requires sorted { IsTrue (is_sorted key_cmp (map of_member members.now.items)) }
-    ensures { Loads result store.old store.new (plain_value.node kind.Set (of_members members.now.items)) }
+    ensures done { Loads result (states store.old) (states store.new) (plain_value.node kind.Set (of_members members.now.items)) }
+    ensures longer { IsLonger store.old store.new }
 {
     let keys = Keys::from_vec(copy_keys(alloc, members)?);
     let cells = Cells::from_vec(member_cells(alloc, members)?);

@@ -1,33 +1,34 @@
-use crate::held::Held;
-use crate::node::NodeId;
+use crate::held::{Held, Listed, Measures, Names};
+use crate::places::{Seats, seat};
+use page_tables::{NodeId, Pages, Row};
 use std::alloc::{AllocError, Global};
 use std::marker::Model;
+use value_model::Kind;
 
 /// Frozen nodes under numbers from 1, children before parents.
 ///
-/// A contract sees it as the list of the numbered states that its numbers stand for.
+/// A contract sees it as its pages and its nodes; `states` gives the numbered states that the numbers stand for.
 #[derive(Drop)]
 pub struct Store {
+    pages: Pages,
     nodes: Vec<Held>,
     used: u64,
 }
 
 impl Model for Store {
-    ghost use Rattle.std.specs.Prelude.{List, [], length, ◌≡◌, ◌≤◌, ◌^◌};
-    ghost use Rattle.numbered.specs.Tree.{Tree};
-    ghost use Rattle.numbered.specs.Code.{coded_trees};
+    ghost use Rattle.std.specs.Prelude.{[], length, ◌≡◌, ◌≤◌, ◌^◌};
     ghost use Rattle.numbered.specs.Store.{used as used_by};
-    ghost use Rattle.node_store.specs.Kept.{news, Sound};
+    ghost use Rattle.node_store.specs.Paged.{Paged, standing};
+    ghost use Rattle.node_store.specs.Kept.{listed, Sound, InPages};
 
-    ghost Value = { List Tree };
+    ghost Value = { Paged };
 
-    ghost coded = { coded_trees };
-
-    ghost view = { λ s. news [] s.nodes.items };
+    ghost view = { λ s. record { pages = s.pages; nodes = listed s.nodes.items } };
 
     ghost invariant = { λ s. record {
-      sound : Sound [] s.nodes.items;
-      used : s.used ≡ used_by (news [] s.nodes.items);
+      named : InPages (length s.pages) 0 (listed s.nodes.items);
+      sound : Sound s.pages [] s.nodes.items;
+      used : s.used ≡ used_by (standing s.pages [] (listed s.nodes.items));
       few : length s.nodes.items ≤ 2097151;
       light : s.used ≤ 2 ^ 25;
     } };
@@ -52,34 +53,47 @@ impl Model for Mark {
 }
 
 impl Store {
-    ghost use Rattle.std.specs.Prelude.{◌≡◌, ◌<◌, ◌≤◌, ◌^◌, [], ◌∷◌, ◌++◌, length, take, false, IfOk, OnErr};
-    ghost use Rattle.numbered.specs.Store.{IsStore, is_full, used as used_by};
-    ghost use Rattle.node_store.specs.Kept.{IsKept, tree_of};
-    ghost use Rattle.node_store.specs.Shown.{IsRead};
+    ghost use Rattle.std.specs.Prelude.{◌≡◌, ◌+◌, ◌/◌, ◌<◌, ◌≤◌, ◌^◌, [], ◌∷◌, ◌++◌, length, map, take, false, get_or, IfOk, OnErr};
+    ghost use Rattle.numbered.specs.Store.{IsStore, IsNext, is_full, tree_at, used as used_by};
+    ghost use Rattle.page_tables.specs.Pages.{in_pages};
+    ghost use Rattle.node_store.specs.Added.{IsTallied};
+    ghost use Rattle.node_store.specs.Kept.{sums as sums_of};
+    ghost use Rattle.node_store.specs.Nodes.{cells_of, CellsBelow, formed};
+    ghost use Rattle.node_store.specs.Paged.{states, first, pages_after, rows_at, IsLonger};
+    ghost use Rattle.node_store.specs.Shown.{IsRead, IsRow, IsSized};
 
     /// A store without nodes.
     pub fn new(alloc: Global) -> Result<Store, AllocError>
-        ensures { IfOk result (λ s. s ≡ []) }
+        ensures states { IfOk result (λ s. states s ≡ []) }
+        ensures pages { IfOk result (λ s. s.pages ≡ []) }
     {
         Ok(Store {
+            pages: Pages::new(alloc),
             nodes: Vec::new(alloc),
             used: 0,
         })
     }
 
     /// How many nodes there are: the highest number that was given, at most 2^21 - 1.
-    #[tactic(auto, using(crate::proofs::Grown::length_news))]
     pub fn len(&self) -> u64
-        ensures value { result ≡ length self.now }
-        ensures few { length self.now < 2 ^ 21 }
-        ensures store { IsStore self.now }
+        ensures value { result ≡ length (states self.now) }
+        ensures few { length (states self.now) < 2 ^ 21 }
+        ensures store { IsStore (states self.now) }
     {
         self.nodes.len() as u64
     }
 
+    /// How many pages there are, at most 2^25.
+    pub fn pages(&self) -> u64
+        ensures value { result ≡ length self.now.pages }
+        ensures few { result ≤ 2 ^ 25 }
+    {
+        self.pages.len()
+    }
+
     /// The sum of the own weights of all nodes, at most 2^25.
     pub fn used(&self) -> u64
-        ensures value { result ≡ used_by self.now }
+        ensures value { result ≡ used_by (states self.now) }
         ensures light { result ≤ 2 ^ 25 }
     {
         self.used
@@ -87,25 +101,32 @@ impl Store {
 
     /// The present moment, to which `cut_to` leads back.
     pub fn mark(&self) -> Mark
-        ensures { result ≡ length self.now }
+        ensures value { result ≡ length (states self.now) }
+        ensures nodes { result ≡ length self.now.nodes }
+        ensures pages { pages_after 0 self.now.nodes result ≡ length self.now.pages }
     {
-        Mark { len: self.len() }
+        Mark {
+            len: self.nodes.len() as u64,
+        }
     }
 
-    /// Leaves the first nodes, as many as there were at the mark. It takes no memory.
+    /// Leaves the first nodes, as many as there were at the mark, and the pages that there were then. It takes no memory.
     pub fn cut_to(&mut self, mark: Mark)
-        requires { mark ≤ length self.old }
-        ensures { self.new ≡ take mark self.old }
+        requires { mark ≤ length (states self.old) }
+        ensures states { states self.new ≡ take mark (states self.old) }
+        ensures whole { self.new ≡ first mark self.old }
     {
         let used = self.used_through(mark.len);
+        let pages = self.pages_through(mark.len);
+        self.pages.cut_to(pages);
         self.nodes.truncate(mark.len as usize);
         self.used = used;
     }
 
     /// The sum of the own weights of the first nodes.
     fn used_through(&self, len: u64) -> u64
-        requires { len ≤ length self.now }
-        ensures { result ≡ used_by (take len self.now) }
+        requires { len ≤ length (states self.now) }
+        ensures { result ≡ used_by (take len (states self.now)) }
     {
         if len == 0 {
             0
@@ -114,25 +135,115 @@ impl Store {
         }
     }
 
+    /// How many pages there were after the first nodes.
+    fn pages_through(&self, len: u64) -> u64
+        requires { len ≤ length (states self.now) }
+        ensures value { result ≡ pages_after 0 self.now.nodes len }
+        ensures most { result ≤ length self.now.pages }
+    {
+        let _nodes = &self.nodes;
+        if len == 0 {
+            0
+        } else {
+            self.nodes[(len - 1) as usize].node.after
+        }
+    }
+
     /// What is held of a node.
     pub(crate) fn held(&self, id: NodeId) -> &Held
-        requires { id ≤ length self.now }
+        requires { id ≤ length (states self.now) }
         ensures held { IsRead self.now result.now id }
-        ensures store { IsStore self.now }
+        ensures store { IsStore (states self.now) }
     {
         &self.nodes[(id.get() - 1) as usize]
     }
 
-    /// Adds what is held of the next node.
-    pub(crate) fn push(&mut self, held: Held) -> Result<NodeId, AllocError>
-        requires kept { IsKept self.old held }
-        requires room { is_full self.old (tree_of self.old held) ≡ false }
-        ensures ok { IfOk result (λ id. (id ≡ length self.new) × (self.new ≡ self.old ++ tree_of self.old held ∷ [])) }
+    /// How many entries a node has.
+    pub(crate) fn size(&self, id: NodeId) -> usize
+        requires { id ≤ length (states self.now) }
+        ensures { IsSized self.now id result }
+    {
+        self.held(id).count as usize
+    }
+
+    /// The entry of a node at an index.
+    pub(crate) fn row(&self, id: NodeId, i: usize) -> &Row
+        requires number { id ≤ length (states self.now) }
+        requires in_range { i < length (cells_of (tree_at (states self.now) id)) }
+        ensures value { (d : _) → result.now ≡ get_or (rows_at self.now id) i d }
+        ensures row { IsRow (states self.now) (tree_at (states self.now) id) i result.now }
+    {
+        let held = self.held(id);
+        self.pages.row(held.node.names.as_slice(), &held.starts, i)
+    }
+
+    /// Adds the next node, its entries in pages of their own.
+    pub(crate) fn keep(
+        &mut self,
+        alloc: Global,
+        kind: Kind,
+        rows: Vec<Row>,
+        sums: &Vec<u32>,
+        measures: Measures,
+    ) -> Result<NodeId, AllocError>
+        requires below { CellsBelow (states self.old) (map (λ r. r.1) rows.items) }
+        requires next { IsNext (states self.old) (formed (states self.old) kind rows.items) }
+        requires sums { sums.now.items ≡ sums_of (states self.old) 0 (map (λ r. r.1) rows.items) }
+        requires tallied { IsTallied (formed (states self.old) kind rows.items) measures }
+        requires room { is_full (states self.old) (formed (states self.old) kind rows.items) ≡ false }
+        ensures number { IfOk result (λ id. id ≡ length (states self.new)) }
+        ensures states { IfOk result (λ _. states self.new ≡ states self.old ++ formed (states self.old) kind rows.items ∷ []) }
+        ensures pages { IfOk result (λ _. self.new.pages ≡ self.old.pages ++ in_pages rows.items) }
+        ensures longer { IfOk result (λ _. IsLonger self.old self.new) }
         ensures stands { OnErr result (self.new ≡ self.old) }
     {
-        let used = held.total as u64;
-        self.nodes.push(held)?;
-        self.used = used;
-        Ok(NodeId::nth(self.nodes.len() as u64))
+        self.nodes.reserve(1)?;
+        let most = self.pages.len();
+        let count = rows.len() as u32;
+        let names = self.pages.add_rows(alloc, rows)?;
+        match seat(alloc, &self.pages, &names, sums) {
+            Ok(seats) => {
+                let total = self.used + measures.own;
+                let after = self.pages.len();
+                let names = Names::from_vec(names);
+                let node = Listed { kind, names, after };
+                self.nodes
+                    .push_reserved(held_of(node, seats, count, total, measures));
+                self.used = total;
+                Ok(NodeId::nth(self.nodes.len() as u64))
+            }
+            Err(fault) => {
+                self.pages.cut_to(most);
+                Err(fault)
+            }
+        }
     }
 }
+
+/// What is held of a node of these measures.
+fn held_of(node: Listed, seats: Seats, count: u32, total: u64, measures: Measures) -> Held
+    requires total { total ≤ 2 ^ 25 }
+    requires small { IsSmallTally measures }
+    ensures node { result.node ≡ node }
+    ensures starts { result.starts.items ≡ seats.starts.items }
+    ensures before { result.before.items ≡ seats.before.items }
+    ensures count { result.count ≡ count }
+    ensures total { result.total ≡ total }
+    ensures measures { IsHolding result measures }
+{
+    let Seats { starts, before } = seats;
+    Held {
+        node,
+        starts,
+        before,
+        count,
+        total: total as u32,
+        weight: measures.weight as u32,
+        values: measures.values as u32,
+        containers: measures.containers as u32,
+        depth: measures.depth as u8,
+    }
+}
+
+ghost use Rattle.std.specs.Prelude.{◌≡◌, ◌≤◌, ◌^◌};
+ghost use Rattle.node_store.specs.Added.{IsHolding, IsSmallTally};

@@ -1,7 +1,8 @@
 ghost use Rattle.std.specs.Prelude.{◌≡◌, ◌∷◌, [], ◌++◌, map, IfOk, IsTrue};
 ghost use Rattle.node_store.specs.Nodes.{is_node};
 
-use crate::node::{Cell, Cells, Keys, Node};
+use crate::node::{Cells, Keys, Node};
+use page_tables::Cell;
 use std::alloc::{AllocError, Global};
 use std::marker::Model;
 use value_model::{Key, Kind};
@@ -19,7 +20,7 @@ impl Model for Table {
     ghost use Rattle.std.specs.Prelude.{◌≡◌, List, length};
     ghost use Rattle.std.specs.List.{zip};
     ghost use Rattle.value_model.specs.declared.key.Key.{Key};
-    ghost use Rattle.node_store.specs.declared.node.Cell.{Cell};
+    ghost use Rattle.page_tables.specs.declared.cell.Cell.{Cell};
 
     ghost Value = { List (Key × Cell) };
 

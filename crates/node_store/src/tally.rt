@@ -6,12 +6,13 @@ ghost use Rattle.numbered.specs.Tree as tree;
 ghost use Rattle.numbered.specs.Tree.{plain, child_weight};
 ghost use Rattle.node_store.specs.Kept.{sums};
 ghost use Rattle.node_store.specs.Nodes.{cell_tree, CellBelow, CellsBelow};
+ghost use Rattle.node_store.specs.Paged.{states};
 ghost use Rattle.node_store.specs.Sums as spec;
 ghost use Rattle.node_store.specs.Sums.{key_sum, IsLight, IsMeasured};
 
 use crate::held::Measures;
-use crate::node::Cell;
 use crate::store::Store;
+use page_tables::Cell;
 use std::alloc::{AllocError, Global};
 use value_model::{Key, Kind};
 use values::key_weight;
@@ -41,10 +42,10 @@ fn sum_of_keys(keys: &[Key]) -> u64
 impl Store {
     /// What a table measures.
     pub(crate) fn measure(&self, kind: Kind, keys: &[Key], cells: &[Cell]) -> Measures
-        requires store { IsStore self.now }
-        requires below { CellsBelow self.now cells.now }
-        requires light { IsLight self.now kind keys.now cells.now }
-        ensures { IsMeasured self.now kind keys.now cells.now result }
+        requires store { IsStore (states self.now) }
+        requires below { CellsBelow (states self.now) cells.now }
+        requires light { IsLight (states self.now) kind keys.now cells.now }
+        ensures { IsMeasured (states self.now) kind keys.now cells.now result }
     {
         let keys = keys_weight(kind, keys);
         Measures {
@@ -58,10 +59,10 @@ impl Store {
 
     /// What the cells weigh in the node's own weight: a container 1.
     fn own_weights(&self, cells: &[Cell]) -> u64
-        requires store { IsStore self.now }
-        requires below { CellsBelow self.now cells.now }
-        requires small { spec.own_weights self.now cells.now ≤ 2 ^ 20 }
-        ensures { result ≡ spec.own_weights self.now cells.now }
+        requires store { IsStore (states self.now) }
+        requires below { CellsBelow (states self.now) cells.now }
+        requires small { spec.own_weights (states self.now) cells.now ≤ 2 ^ 20 }
+        ensures { result ≡ spec.own_weights (states self.now) cells.now }
     {
         let mut total = 0;
         for cell in cells {
@@ -71,10 +72,10 @@ impl Store {
     }
 
     fn own_weight_of(&self, cell: &Cell) -> u64
-        requires store { IsStore self.now }
-        requires below { CellBelow self.now cell.now }
-        requires small { child_weight (cell_tree self.now cell.now) ≤ 2 ^ 20 }
-        ensures { result ≡ child_weight (cell_tree self.now cell.now) }
+        requires store { IsStore (states self.now) }
+        requires below { CellBelow (states self.now) cell.now }
+        requires small { child_weight (cell_tree (states self.now) cell.now) ≤ 2 ^ 20 }
+        ensures { result ≡ child_weight (cell_tree (states self.now) cell.now) }
     {
         match cell {
             Cell::Prim(key) => key_weight(key),
@@ -83,9 +84,9 @@ impl Store {
     }
 
     fn cell_weights(&self, cells: &[Cell]) -> u64
-        requires below { CellsBelow self.now cells.now }
-        requires small { spec.cell_weights self.now cells.now ≤ 2 ^ 20 }
-        ensures { result ≡ spec.cell_weights self.now cells.now }
+        requires below { CellsBelow (states self.now) cells.now }
+        requires small { spec.cell_weights (states self.now) cells.now ≤ 2 ^ 20 }
+        ensures { result ≡ spec.cell_weights (states self.now) cells.now }
     {
         let mut total = 0;
         for cell in cells {
@@ -95,9 +96,9 @@ impl Store {
     }
 
     fn weight_of(&self, cell: &Cell) -> u64
-        requires below { CellBelow self.now cell.now }
-        requires small { plain_value.weight (plain (cell_tree self.now cell.now)) ≤ 2 ^ 20 }
-        ensures { result ≡ plain_value.weight (plain (cell_tree self.now cell.now)) }
+        requires below { CellBelow (states self.now) cell.now }
+        requires small { plain_value.weight (plain (cell_tree (states self.now) cell.now)) ≤ 2 ^ 20 }
+        ensures { result ≡ plain_value.weight (plain (cell_tree (states self.now) cell.now)) }
     {
         match cell {
             Cell::Prim(key) => key_weight(key),
@@ -106,9 +107,9 @@ impl Store {
     }
 
     fn cell_values(&self, cells: &[Cell]) -> u64
-        requires below { CellsBelow self.now cells.now }
-        requires small { spec.cell_values self.now cells.now ≤ 2 ^ 20 }
-        ensures { result ≡ spec.cell_values self.now cells.now }
+        requires below { CellsBelow (states self.now) cells.now }
+        requires small { spec.cell_values (states self.now) cells.now ≤ 2 ^ 20 }
+        ensures { result ≡ spec.cell_values (states self.now) cells.now }
     {
         let mut total = 0;
         for cell in cells {
@@ -118,8 +119,8 @@ impl Store {
     }
 
     fn values_of(&self, cell: &Cell) -> u64
-        requires { CellBelow self.now cell.now }
-        ensures { result ≡ plain_value.values (plain (cell_tree self.now cell.now)) }
+        requires { CellBelow (states self.now) cell.now }
+        ensures { result ≡ plain_value.values (plain (cell_tree (states self.now) cell.now)) }
     {
         match cell {
             Cell::Prim(_) => 1,
@@ -128,8 +129,8 @@ impl Store {
     }
 
     fn deepest_cell(&self, cells: &[Cell]) -> u64
-        requires { CellsBelow self.now cells.now }
-        ensures { result ≡ spec.deepest_cell self.now cells.now }
+        requires { CellsBelow (states self.now) cells.now }
+        ensures { result ≡ spec.deepest_cell (states self.now) cells.now }
     {
         let mut most = 0;
         for cell in cells {
@@ -139,8 +140,8 @@ impl Store {
     }
 
     fn depth_of(&self, cell: &Cell) -> u64
-        requires { CellBelow self.now cell.now }
-        ensures { result ≡ plain_value.depth (plain (cell_tree self.now cell.now)) }
+        requires { CellBelow (states self.now) cell.now }
+        ensures { result ≡ plain_value.depth (plain (cell_tree (states self.now) cell.now)) }
     {
         match cell {
             Cell::Prim(_) => 0,
@@ -149,9 +150,9 @@ impl Store {
     }
 
     fn cell_containers(&self, cells: &[Cell]) -> u64
-        requires below { CellsBelow self.now cells.now }
-        requires small { spec.cell_containers self.now cells.now ≤ 2 ^ 20 }
-        ensures { result ≡ spec.cell_containers self.now cells.now }
+        requires below { CellsBelow (states self.now) cells.now }
+        requires small { spec.cell_containers (states self.now) cells.now ≤ 2 ^ 20 }
+        ensures { result ≡ spec.cell_containers (states self.now) cells.now }
     {
         let mut total = 0;
         for cell in cells {
@@ -161,8 +162,8 @@ impl Store {
     }
 
     fn containers_of(&self, cell: &Cell) -> u64
-        requires { CellBelow self.now cell.now }
-        ensures { result ≡ tree.containers (cell_tree self.now cell.now) }
+        requires { CellBelow (states self.now) cell.now }
+        ensures { result ≡ tree.containers (cell_tree (states self.now) cell.now) }
     {
         match cell {
             Cell::Prim(_) => 0,
@@ -172,9 +173,9 @@ impl Store {
 
     /// For each cell, how many containers stand in the cells before it.
     pub(crate) fn sums(&self, alloc: Global, cells: &[Cell]) -> Result<Vec<u32>, AllocError>
-        requires below { CellsBelow self.now cells.now }
-        requires small { spec.cell_containers self.now cells.now ≤ 2 ^ 20 }
-        ensures { IfOk result (λ v. v.items ≡ sums self.now 0 cells.now) }
+        requires below { CellsBelow (states self.now) cells.now }
+        requires small { spec.cell_containers (states self.now) cells.now ≤ 2 ^ 20 }
+        ensures { IfOk result (λ v. v.items ≡ sums (states self.now) 0 cells.now) }
     {
         let mut out = Vec::with_capacity(alloc, cells.len())?;
         let mut total: u64 = 0;

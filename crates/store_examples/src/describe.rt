@@ -1,4 +1,5 @@
 //! A node and its numbers as a text.
+ghost use Rattle.node_store.specs.Paged.{states};
 ghost use Rattle.std.specs.Prelude.{◌≡◌, ◌≤◌, ◌<◌, length, None, IfOk};
 ghost use Rattle.numbered.specs.Store.{tree_at};
 ghost use Rattle.value_model.specs.Limits.{state_limit};
@@ -27,7 +28,7 @@ pub fn text_of(alloc: Global, v: &Val) -> anyhow::Result<String> {
 
 /// A node: its kind, then each entry's key and cell, a node's number behind `#`.
 pub fn node_text(alloc: Global, store: &Store, id: NodeId) -> anyhow::Result<String>
-    requires { id ≤ length store.now }
+    requires { id ≤ length (states store.now) }
 {
     let mut out = String::from_str(alloc, name_of(store.kind(id)))?;
     for i in 0..store.count(id) {
@@ -40,7 +41,7 @@ pub fn node_text(alloc: Global, store: &Store, id: NodeId) -> anyhow::Result<Str
 
 /// A node's number, what its store weighs, and the node's weight, values, depth and container places.
 pub fn sizes_text(alloc: Global, store: &Store, id: NodeId) -> anyhow::Result<String>
-    requires { id ≤ length store.now }
+    requires { id ≤ length (states store.now) }
 {
     let (number, used, weight) = (id.get(), store.used(), store.weight(id));
     let (values, depth, places) = (store.values(id), store.depth(id), store.containers(id));
@@ -57,8 +58,8 @@ fn push_key(
     i: usize,
     out: &mut String,
 ) -> anyhow::Result<()>
-    requires number { id ≤ length store.now }
-    requires in_range { i < length (cells_of (tree_at store.now id)) }
+    requires number { id ≤ length (states store.now) }
+    requires in_range { i < length (cells_of (tree_at (states store.now) id)) }
 {
     let key = match store.kind(id) {
         Kind::List => return Ok(()),

@@ -1,5 +1,6 @@
 //! What is said of a state: its root as a node, the root's numbers, the numbers of its container places, a container before
 //! what is in it, the value that is read back, and, of each key that is looked up, the entry of the root that has it.
+ghost use Rattle.node_store.specs.Paged.{states};
 ghost use Rattle.std.specs.Prelude.{◌≤◌, length};
 
 use crate::describe::{node_text, sizes_text, state_of, text_of};
@@ -31,7 +32,7 @@ fn answer_with(alloc: Global, state: &str, keys: &str) -> anyhow::Result<String>
 
 /// The number of each container place.
 pub fn places_text(alloc: Global, store: &Store, id: NodeId) -> anyhow::Result<String>
-    requires { id ≤ length store.now }
+    requires { id ≤ length (states store.now) }
 {
     let mut out = String::new(alloc);
     for n in 0..store.containers(id) {
@@ -43,8 +44,8 @@ pub fn places_text(alloc: Global, store: &Store, id: NodeId) -> anyhow::Result<S
 
 /// Where each key of a list stands in a node.
 fn found_text(alloc: Global, store: &Store, id: NodeId, keys: NodeId) -> anyhow::Result<String>
-    requires node { id ≤ length store.now }
-    requires keys { keys ≤ length store.now }
+    requires node { id ≤ length (states store.now) }
+    requires keys { keys ≤ length (states store.now) }
 {
     let mut out = String::new(alloc);
     for i in 0..store.count(keys) {

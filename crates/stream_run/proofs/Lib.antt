@@ -1,2 +1,4 @@
+pub mod BuiltLaws
+pub mod FlatLaws
 pub mod LinesLaws
 pub mod RunsLaws

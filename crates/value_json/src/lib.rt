@@ -14,9 +14,11 @@ mod walk;
 
 pub use fault::JsonFault;
 pub use reading::{
-    is_patch_list, is_path, json_of_bytes, patches_of_json, path_of_json, val_of_json,
+    is_patch_list, is_path, json_of_bytes, limit_if, op_in, patches_of_json, path_of_json,
+    val_of_json, value_if,
 };
-pub use sending::Printed;
-pub use sending_patches::PrintedPatches;
+pub use sending::{Printed, PrintedKey};
+pub use sending_patches::{PrintedPatches, PrintedPath};
 pub use texts::{Text8, read_patches, read_path, read_value, write_patches, write_value};
 pub use value_json_spec::JsonWhy;
+pub use walk::text_in;

@@ -146,7 +146,8 @@ fn first_limit(list: &[Patch]) -> Option<Limit>
     None
 }
 
-fn limit_if(value: &Option<Val>) -> Option<Limit>
+/// The first limit that a value is past, where there is one.
+pub fn limit_if(value: &Option<Val>) -> Option<Limit>
     ensures { result ≡ spec.limit_if value.now }
 {
     match value {
@@ -187,7 +188,8 @@ fn is_patch(value: &Value) -> bool
         && has_members(value, member_count(value.get("value")))
 }
 
-fn op_in(value: &Value) -> Option<Op>
+/// The operation under `op`: `add`, `replace` or `remove`; None where another text, no text or nothing is there.
+pub fn op_in(value: &Value) -> Option<Op>
     ensures { result ≡ spec.op_in (view value.now) }
 {
     op_of(value.get("op")?.as_str()?)
@@ -266,8 +268,9 @@ fn steps_if(alloc: Global, value: Option<&Value>) -> Result<Path, JsonFault>
     }
 }
 
+/// The value of data that may be absent, or the first fault of the walk, or memory. Limits are not judged.
 #[tactic(auto, using(crate::proofs::Passed::passed_map))]
-fn value_if(alloc: Global, value: Option<&Value>) -> Result<Option<Val>, JsonFault>
+pub fn value_if(alloc: Global, value: Option<&Value>) -> Result<Option<Val>, JsonFault>
     ensures { Gives result (spec.walked_if (option_map (λ v. view v.now) value.entry)) }
 {
     match value {

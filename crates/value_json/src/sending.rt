@@ -32,6 +32,22 @@ impl Serialize for Printed<'_> {
     }
 }
 
+/// A primitive, to be printed.
+#[derive(Drop)]
+pub struct PrintedKey<'a> {
+    pub key: &'a Key,
+}
+
+impl Described for PrintedKey<'_> {
+    ghost writes = { λ p. SendsValue (key_data p.key.now) };
+}
+
+impl Serialize for PrintedKey<'_> {
+    fn serialize<S: Serializer>(&self, out: &mut S) -> Result<(), S::Error> {
+        send_key(self.key, out)
+    }
+}
+
 /// Sends a primitive. A caller learns besides that it is sound.
 pub(crate) fn send_key<S: Serializer>(key: &Key, out: &mut S) -> Result<(), S::Error>
     ensures json { OnOk result (SendsValue (key_data key.now) (S.written out.old) (S.written out.new)) }

@@ -9,7 +9,7 @@ ghost use Rattle.value_json_spec.specs.Printing.{key_data};
 
 use crate::sending::{Printed, send_key};
 use serde::{Described, Serialize, Serializer};
-use values::{Key, Op, Patch, Patches};
+use values::{Key, Op, Patch, Patches, Path};
 
 /// Patches in the form of Immer 10, to be printed.
 #[derive(Drop)]
@@ -25,6 +25,22 @@ impl Serialize for PrintedPatches<'_> {
     #[tactic(auto, unfolding(value_json_spec::specs::Patches::patches_data))]
     fn serialize<S: Serializer>(&self, out: &mut S) -> Result<(), S::Error> {
         send_list(self.patches.as_slice(), out)
+    }
+}
+
+/// A path, to be printed as an array of its steps.
+#[derive(Drop)]
+pub struct PrintedPath<'a> {
+    pub path: &'a Path,
+}
+
+impl Described for PrintedPath<'_> {
+    ghost writes = { λ p. SendsValue (path_data p.path.now) };
+}
+
+impl Serialize for PrintedPath<'_> {
+    fn serialize<S: Serializer>(&self, out: &mut S) -> Result<(), S::Error> {
+        send_steps(self.path.as_slice(), out)
     }
 }
 

@@ -35,7 +35,8 @@ fn int_in(number: &Number) -> Result<Safe, JsonFault>
     }
 }
 
-fn text_in(alloc: Global, text: &str) -> Result<Text, JsonFault>
+/// The text of a JSON string; `TextTooLong` exactly where it has more than 2^20 bytes, or memory.
+pub fn text_in(alloc: Global, text: &str) -> Result<Text, JsonFault>
     ensures { Gives result (spec.text_from text.now) }
 {
     match Text::of(alloc, text) {

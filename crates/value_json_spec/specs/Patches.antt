@@ -117,7 +117,7 @@ abbrev pub patch_walked : Data → Result Patch JsonWhy
 patch_walked d = and_then (λ path. result_map (patch_of (unwrap_or (op_in d) op.Add) path) (walked_if (get (codes "value") d))) (steps_if (get (codes "path") d))
 
 -- the first of two that is there
-abbrev first_some : {X : Type 0} → Option X → Option X → Option X
+abbrev pub first_some : {X : Type 0} → Option X → Option X → Option X
 first_some None o = o
 first_some (Some x) o = Some x
 

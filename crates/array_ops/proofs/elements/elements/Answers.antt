@@ -1,3 +1,4 @@
+use Rattle.node_store.specs.Paged.{states}
 use Rattle.std.proofs.Common.{◌∙◌, List, sym, subst}
 use Rattle.run_heap.specs.declared.value.Rv.{Rv}
 use Rattle.run_heap.specs.Operations.{table_of}
@@ -9,7 +10,7 @@ use Rattle.array_ops.proofs.elements.elements.Goals as goal
 
 pub loop-i-preserved : goal.loop-i-preserved
 loop-i-preserved c =
-    let h = heap c.args.store.now c.args.scope.now in
+    let h = heap (states c.args.store.now) c.args.scope.now in
     let xs = elements_of h c.args.of.now in
     let v = c.in_ok-entry_at.field-0 in
     let there = sym (value_element (table_of h c.args.of.now) c.loop-i.i) ∙ (rw c.loop-i.invariant.same at c.in_ok-entry_at.ensures.value) in

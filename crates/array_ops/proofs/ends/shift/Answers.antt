@@ -1,3 +1,4 @@
+use Rattle.node_store.specs.Paged.{states}
 use Rattle.std.proofs.Common.{[]}
 use Rattle.run_heap.specs.Operations.{table_of}
 use Rattle.draft_core.specs.Seen.{heap}
@@ -9,7 +10,7 @@ use Rattle.array_ops.proofs.ends.shift.Goals as goal
 
 pub returns-clause-done : goal.returns-clause-done
 returns-clause-done c =
-    let h = heap c.args.store.now c.args.scope.now in
+    let h = heap (states c.args.store.now) c.args.scope.now in
     let of = c.args.of.now in
     let n = c.in_ok-count.count in
     let m = c.min.result in
@@ -17,9 +18,9 @@ returns-clause-done c =
     let writable = c.in_ok-count.ensures.answer in
     let long = long_elements (table_of h of) n writable.long in
     let row = shifted_at (elements_of h of) n long m first c.min.ensures c.in_ok-first.ensures.value in
-    row_spliced shifted h (heap c.args.store.now c.splice_at.new.self) of [] n 0 m [] first c.requires.stands.sound writable row (rw c.in_ok-first.ensures.same at c.in_ok-splice_at.ensures.done)
+    row_spliced shifted h (heap (states c.args.store.now) c.splice_at.new.self) of [] n 0 m [] first c.requires.stands.sound writable row (rw c.in_ok-first.ensures.same at c.in_ok-splice_at.ensures.done)
 
 pub returns-clause-fits : goal.returns-clause-fits
 returns-clause-fits c =
-    let h = heap c.args.store.now c.args.scope.now in
-    fits_on h (heap c.args.store.now c.splice_at.new.self) c.in_ok-first.first (rw c.in_ok-first.ensures.same at c.in_ok-splice_at.ensures.grows) c.in_ok-first.ensures.fits
+    let h = heap (states c.args.store.now) c.args.scope.now in
+    fits_on h (heap (states c.args.store.now) c.splice_at.new.self) c.in_ok-first.first (rw c.in_ok-first.ensures.same at c.in_ok-splice_at.ensures.grows) c.in_ok-first.ensures.fits

@@ -1,3 +1,4 @@
+use Rattle.node_store.specs.Paged.{states}
 use Rattle.std.proofs.Common.{[]}
 use Rattle.run_heap.specs.Operations.{table_of}
 use Rattle.std.proofs.lemmas.Int.{to_z-of_z}
@@ -10,7 +11,7 @@ use Rattle.array_ops.proofs.ranges.set_length.Goals as goal
 
 pub returns-clause-done : goal.returns-clause-done
 returns-clause-done c =
-    let h = heap c.args.store.now c.args.scope.now in
+    let h = heap (states c.args.store.now) c.args.scope.now in
     let of = c.args.of.now in
     let n = c.in_ok-len.len in
     let end = c.in-Some.end in
@@ -18,4 +19,4 @@ returns-clause-done c =
     let long = long_elements (table_of h of) n writable.long in
     let cut = rw (to_z-of_z w64 c.args.n c.ranges.n) at c.in-Some.ensures in
     let row = cut_ok (elements_of h of) n long c.args.n end cut.0 cut.1 in
-    row_spliced (cut_to c.args.n) h (heap c.args.store.now c.splice_at.new.self) of [] n end n [] tt c.requires.stands.sound writable row c.in_ok-splice_at.ensures.done
+    row_spliced (cut_to c.args.n) h (heap (states c.args.store.now) c.splice_at.new.self) of [] n end n [] tt c.requires.stands.sound writable row c.in_ok-splice_at.ensures.done

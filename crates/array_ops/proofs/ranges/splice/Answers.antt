@@ -1,3 +1,4 @@
+use Rattle.node_store.specs.Paged.{states}
 use Rattle.std.proofs.Common.{◌∙◌, ◌+◌, ap, sym}
 use Rattle.std.specs.Prelude.{Ok, Result}
 use Rattle.run_heap.specs.declared.value.Rv.{Rv}
@@ -13,12 +14,12 @@ use Rattle.array_ops.proofs.ranges.splice.Goals as goal
 pub splice_with-requires-clause-stored : goal.splice_with-requires-clause-stored
 splice_with-requires-clause-stored c =
     rw c.in_ok-gone.ensures.same
-    (items_stored (heap c.args.store.now c.args.scope.now) c.args.of.now c.args.items.now c.requires.items c.in_ok-len.ensures.answer.ours (sym c.any_undefined.ensures ∙ c.if-any_undefined.false))
+    (items_stored (heap (states c.args.store.now) c.args.scope.now) c.args.of.now c.args.items.now c.requires.items c.in_ok-len.ensures.answer.ours (sym c.any_undefined.ensures ∙ c.if-any_undefined.false))
 
 pub returns-clause-done : goal.returns-clause-done
 returns-clause-done c =
-    let h = heap c.args.store.now c.args.scope.now in
-    let g = heap c.args.store.now c.splice_with.new.self in
+    let h = heap (states c.args.store.now) c.args.scope.now in
+    let g = heap (states c.args.store.now) c.splice_with.new.self in
     let from = c.relative-from.result in
     let to = from + c.removed.result in
     let first = rw (to_z-of_z w64 c.args.start c.ranges.start) at c.relative-from.ensures in

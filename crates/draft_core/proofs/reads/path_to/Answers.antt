@@ -1,3 +1,4 @@
+use Rattle.node_store.specs.Paged.{states}
 use Rattle.std.proofs.Common.{◌∙◌, arith}
 use Rattle.numbered.specs.Store.{tree_at}
 use Rattle.run_heap.specs.Places.{path_to as path_of}
@@ -6,7 +7,7 @@ use Rattle.draft_core.proofs.reads.path_to.Goals as goal
 
 pub loop-left-preserved : goal.loop-left-preserved
 loop-left-preserved c =
-    let ts = c.args.store.now in
+    let ts = (states c.args.store.now) in
     let t = tree_at ts c.loop-left.id in
     let v = tree_at ts c.child-id.result in
     let e = c.entry_at-i.ensures in
@@ -22,5 +23,5 @@ loop-left-preserved c =
 
 pub returns : goal.returns
 returns c =
-    let ts = c.args.store.now in
+    let ts = (states c.args.store.now) in
     c.from_vec.ensures ∙ path_ends (tree_at ts c.loop-left.id) (path_of c.args.n (tree_at ts c.args.root)) c.loop-left.steps.items c.loop-left.left c.loop-left-test.false c.loop-left.invariant.path

@@ -1,3 +1,4 @@
+use Rattle.node_store.specs.Paged.{states}
 use Rattle.std.proofs.Common.{◌≡◌, sym, ap}
 use Rattle.std.specs.Prelude.{Some}
 use Rattle.std.specs.FinMap.Entries.{find}
@@ -11,11 +12,11 @@ use Rattle.draft_core.specs.Seen.{heap}
 use Rattle.draft_map_set.proofs.entries.value_of.Goals as goal
 
 pub entry_at-requires-clause-in_range : goal.entry_at-requires-clause-in_range
-entry_at-requires-clause-in_range c = position_below c.args.key.now (table_of (heap c.args.store.now c.args.scope.now) c.args.of.now) c.in-Some.i (sym c.in-Some.ensures)
+entry_at-requires-clause-in_range c = position_below c.args.key.now (table_of (heap (states c.args.store.now) c.args.scope.now) c.args.of.now) c.in-Some.i (sym c.in-Some.ensures)
 
 pub returns-in-Some-clause-value : goal.returns-in-Some-clause-value
 returns-in-Some-clause-value c =
-    let h = heap c.args.store.now c.args.scope.now in
+    let h = heap (states c.args.store.now) c.args.scope.now in
     let of = c.args.of.now in
     let k = c.args.key.now in
     let t = table_of h of in
@@ -23,4 +24,4 @@ returns-in-Some-clause-value c =
     (λ v e. sym (ap or_undefined (member_found k t c.in-Some.i v (sym c.in-Some.ensures) e)))
 
 pub returns-in-None-clause-value : goal.returns-in-None-clause-value
-returns-in-None-clause-value c = sym (ap or_undefined (member_absent c.args.key.now (table_of (heap c.args.store.now c.args.scope.now) c.args.of.now) (sym c.in-None.ensures)))
+returns-in-None-clause-value c = sym (ap or_undefined (member_absent c.args.key.now (table_of (heap (states c.args.store.now) c.args.scope.now) c.args.of.now) (sym c.in-None.ensures)))

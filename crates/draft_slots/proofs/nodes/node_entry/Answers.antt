@@ -1,3 +1,4 @@
+use Rattle.node_store.specs.Paged.{states}
 use Rattle.numbered.specs.Store.{tree_at}
 use Rattle.numbered.specs.Tree.{branches_of}
 use Rattle.std.proofs.Common.{subst, sym, List, ◌≡◌}
@@ -9,6 +10,6 @@ use Rattle.draft_slots.proofs.nodes.node_entry.Goals as goal
 
 pub returns : goal.returns
 returns c =
-    let t = tree_at c.args.store.now c.args.id in
+    let t = tree_at (states c.args.store.now) c.args.id in
     let key = subst (λ (ks : List Key). slice_get ks c.args.i ≡ Some c.in_ok-key.key) (sym (table_keys c.args.given (branches_of t))) c.in_ok-key.ensures in
     entry_from (node_table c.args.given t) c.args.i c.in_ok-key.key c.in_ok-value.value key c.in_ok-value.ensures

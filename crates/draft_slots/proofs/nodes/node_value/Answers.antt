@@ -1,9 +1,10 @@
+use Rattle.node_store.specs.Paged.{states}
 use Rattle.std.proofs.Common.{◌∙◌, sym, ap, ℕ}
 use Rattle.std.specs.Prelude.{Some, Option}
 use Rattle.value_model.specs.declared.key.Key.{Key}
 use Rattle.numbered.specs.Store.{tree_at}
 use Rattle.numbered.specs.Tree.{branches_of, before}
-use Rattle.node_store.specs.declared.node.Cell.{Cell}
+use Rattle.page_tables.specs.declared.cell.Cell.{Cell}
 use Rattle.run_heap.specs.declared.value.Rv.{Rv}
 use Rattle.run_heap.specs.declared.value.Rv.TheVariants as rv
 use Rattle.run_heap.specs.Heap.{after}
@@ -13,11 +14,11 @@ use Rattle.draft_slots.proofs.NodesLaws.{value_given}
 use Rattle.draft_slots.proofs.nodes.node_value.Goals as goal
 
 pub give-requires : goal.give-requires
-give-requires c = rw c.before-in-Node.ensures (fits_before c.args.given (tree_at c.args.store.now c.args.id) c.args.i c.requires.fit)
+give-requires c = rw c.before-in-Node.ensures (fits_before c.args.given (tree_at (states c.args.store.now) c.args.id) c.args.i c.requires.fit)
 
 pub returns-in_ok-copy-in-Prim : goal.returns-in_ok-copy-in-Prim
 returns-in_ok-copy-in-Prim c =
-    let ts = c.args.store.now in
+    let ts = (states c.args.store.now) in
     let es = branches_of (tree_at ts c.args.id) in
     let g = after c.args.given (before c.args.i es) in
     value_given ts c.args.given c.args.i es c.cell.result.now c.requires.store c.cell.ensures.below c.cell.ensures.child
@@ -26,7 +27,7 @@ returns-in_ok-copy-in-Prim c =
 
 pub returns-in-Node : goal.returns-in-Node
 returns-in-Node c =
-    let ts = c.args.store.now in
+    let ts = (states c.args.store.now) in
     let es = branches_of (tree_at ts c.args.id) in
     let g = after c.args.given (before c.args.i es) in
     value_given ts c.args.given c.args.i es c.cell.result.now c.requires.store c.cell.ensures.below c.cell.ensures.child

@@ -1,3 +1,4 @@
+use Rattle.node_store.specs.Paged.{states}
 use Rattle.std.proofs.Common.{◌∙◌, ap, sym, subst, true, false}
 use Rattle.std.specs.FinMap.Entries.{is_sorted}
 use Rattle.value_model.specs.Order.{key_cmp}
@@ -16,18 +17,18 @@ use Rattle.host_engine.proofs.HostLaws.{applied_change, applied_nothing, applied
 use Rattle.host_engine.proofs.apply.apply.Goals as goal
 
 pub edit_all-requires-clause-scope : goal.edit_all-requires-clause-scope
-edit_all-requires-clause-scope c = begun_flat c.args.store.now c.in_ok-scope.scope c.args.ticket c.args.root c.in_ok-scope.ensures.stands c.in_ok-scope.ensures.heap c.requires.state.flat
+edit_all-requires-clause-scope c = begun_flat (states c.args.store.now) c.in_ok-scope.scope c.args.ticket c.args.root c.in_ok-scope.ensures.stands c.in_ok-scope.ensures.heap c.requires.state.flat
 
 pub returns-in-Err : goal.returns-in-Err
 returns-in-Err c =
-    let ts = c.args.store.now in
+    let ts = (states c.args.store.now) in
     let s = c.in_ok-scope.scope in
     let entries = begun_entries ts s c.args.ticket c.args.root c.in_ok-scope.ensures.heap c.requires.state.flat in
     rw c.fault_of.ensures (applied_fault ts c.args.root c.args.patches.now (root_in ts s) (root_in ts c.edit_all.new.scope) c.in-Err.stop c.requires.state c.requires.patches entries c.in-Err.ensures.edits)
 
 pub returns-in_default : goal.returns-in_default
 returns-in_default c =
-    let ts = c.args.store.now in
+    let ts = (states c.args.store.now) in
     let s = c.in_ok-scope.scope in
     let t = c.edit_all.new.scope in
     let root = c.args.root in
@@ -41,7 +42,7 @@ returns-in_default c =
 
 pub returns-then-not-content : goal.returns-then-not-content
 returns-then-not-content c =
-    let ts = c.args.store.now in
+    let ts = (states c.args.store.now) in
     let s = c.in_ok-scope.scope in
     let t = c.edit_all.new.scope in
     let root = c.args.root in
@@ -55,7 +56,7 @@ returns-then-not-content c =
 
 pub keep-requires-clause-sorted : goal.keep-requires-clause-sorted
 keep-requires-clause-sorted c =
-    let ts = c.args.store.now in
+    let ts = (states c.args.store.now) in
     let t = c.edit_all.new.scope in
     let h = heap ts t in
     let after = c.in-Ok.ensures.scope in
@@ -64,15 +65,15 @@ keep-requires-clause-sorted c =
 
 pub keep-requires-clause-flat : goal.keep-requires-clause-flat
 keep-requires-clause-flat c =
-    let ts = c.args.store.now in
+    let ts = (states c.args.store.now) in
     let after = c.in-Ok.ensures.scope in
     let left = c.in-Some.ensures ts after.stands in
     ap is_flat_table (sym (ap entries_in left)) ∙ object_flat (root_in ts c.edit_all.new.scope) after.flat
 
 pub returns-in-Ok-keep : goal.returns-in-Ok-keep
 returns-in-Ok-keep c =
-    let ts = c.args.store.now in
-    let us = c.keep.new.store in
+    let ts = (states c.args.store.now) in
+    let us = (states c.keep.new.store) in
     let s = c.in_ok-scope.scope in
     let t = c.edit_all.new.scope in
     let root = c.args.root in
@@ -88,8 +89,8 @@ returns-in-Ok-keep c =
 
 pub returns-in-Err-keep : goal.returns-in-Err-keep
 returns-in-Err-keep c =
-    let ts = c.args.store.now in
-    let us = c.keep.new.store in
+    let ts = (states c.args.store.now) in
+    let us = (states c.keep.new.store) in
     let s = c.in_ok-scope.scope in
     let t = c.edit_all.new.scope in
     let root = c.args.root in

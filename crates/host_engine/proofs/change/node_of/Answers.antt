@@ -1,7 +1,7 @@
 use Rattle.std.proofs.Common.{◌∙◌, sym, subst, List}
 use Rattle.value_model.specs.declared.kind.Kind.TheVariants as kind
 use Rattle.node_store.specs.Nodes.{is_node, built, CellsBelow}
-use Rattle.node_store.specs.declared.node.Cell.{Cell}
+use Rattle.page_tables.specs.declared.cell.Cell.{Cell}
 use Rattle.host_engine.specs.Drafts.{plain_rows}
 use Rattle.host_engine.proofs.FlatLaws.{built_frozen, cells_below, entries_node}
 use Rattle.host_engine.proofs.change.node_of.Goals as goal

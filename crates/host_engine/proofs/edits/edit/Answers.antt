@@ -1,3 +1,4 @@
+use Rattle.node_store.specs.Paged.{states}
 use Rattle.std.proofs.Common.{◌≡◌, ◌∷◌, [], false}
 use Rattle.std.specs.Prelude.{Some, IsTrue}
 use Rattle.value_model.specs.Search.{left_true, right_true}
@@ -10,7 +11,7 @@ use Rattle.host_engine.proofs.edits.edit.Goals as goal
 
 pub returns-in-Some-number_in-clause-edits : goal.returns-in-Some-number_in-clause-edits
 returns-in-Some-number_in-clause-edits c =
-    let ts = c.args.store.now in
+    let ts = (states c.args.store.now) in
     let p = c.args.patch.now in
     let k = c.in-Some.key.now in
     let n = c.in-Some-number_in.number in
@@ -22,7 +23,7 @@ returns-in-Some-number_in-clause-edits c =
 
 pub returns-in-None-clause-edits : goal.returns-in-None-clause-edits
 returns-in-None-clause-edits c =
-    let ts = c.args.store.now in
+    let ts = (states c.args.store.now) in
     let p = c.args.patch.now in
     let k = c.in-Some.key.now in
     let step : p.path ≡ k ∷ [] = c.in-Some.ensures in

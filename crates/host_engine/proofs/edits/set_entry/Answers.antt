@@ -1,3 +1,4 @@
+use Rattle.node_store.specs.Paged.{states}
 use Rattle.std.proofs.Common.{subst}
 use Rattle.std.specs.Prelude.{Ok, Err, Some}
 use Rattle.value_model.specs.declared.key.Key.TheVariants as key
@@ -15,7 +16,7 @@ use Rattle.host_engine.proofs.edits.set_entry.Goals as goal
 
 pub returns-in-Ok-clause-edits : goal.returns-in-Ok-clause-edits
 returns-in-Ok-clause-edits c =
-    let ts = c.args.store.now in
+    let ts = (states c.args.store.now) in
     let s = c.args.scope.now in
     let t = c.put.new.self in
     let h = heap ts s in
@@ -27,7 +28,7 @@ returns-in-Ok-clause-edits c =
 
 pub returns-in-Ok-clause-scope : goal.returns-in-Ok-clause-scope
 returns-in-Ok-clause-scope c =
-    let ts = c.args.store.now in
+    let ts = (states c.args.store.now) in
     let s = c.args.scope.now in
     let t = c.put.new.self in
     let h = heap ts s in
@@ -39,7 +40,7 @@ returns-in-Ok-clause-scope c =
 
 pub stopped-requires : goal.stopped-requires
 stopped-requires c =
-    let ts = c.args.store.now in
+    let ts = (states c.args.store.now) in
     let s = c.args.scope.now in
     let t = c.put.new.self in
     let h = heap ts s in

@@ -1,3 +1,4 @@
+use Rattle.node_store.specs.Paged.{states}
 use Rattle.std.proofs.Common.{subst}
 use Rattle.std.specs.Prelude.{Ok}
 use Rattle.run_heap.specs.declared.value.Rv.{Rv}
@@ -9,7 +10,7 @@ use Rattle.host_engine.proofs.edits.unset_entry.Goals as goal
 
 pub returns-in-Ok-clause-edits : goal.returns-in-Ok-clause-edits
 returns-in-Ok-clause-edits c =
-    let ts = c.args.store.now in
+    let ts = (states c.args.store.now) in
     let s = c.args.scope.now in
     let t = c.remove.new.self in
     let h = heap ts s in
@@ -20,7 +21,7 @@ returns-in-Ok-clause-edits c =
 
 pub returns-in-Ok-clause-scope : goal.returns-in-Ok-clause-scope
 returns-in-Ok-clause-scope c =
-    let ts = c.args.store.now in
+    let ts = (states c.args.store.now) in
     let s = c.args.scope.now in
     let t = c.remove.new.self in
     let h = heap ts s in

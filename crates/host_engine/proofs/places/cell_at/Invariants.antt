@@ -1,3 +1,4 @@
+use Rattle.node_store.specs.Paged.{states}
 use Rattle.std.proofs.Common.{◌≡◌, ◌∷◌, drop}
 use Rattle.numbered.specs.Store.{tree_at}
 use Rattle.node_store.specs.Nodes.{CellBelow, cell_tree}
@@ -6,6 +7,6 @@ use Rattle.host_engine.proofs.places.cell_at.Given as goal
 
 abbrev pub invariant-loop-step : goal.invariant-loop-step
 invariant-loop-step l = record {
-  tree : subtree_at (drop l.step-index l.rest) (cell_tree l.store l.cell) ≡ subtree_at (l.fn.first ∷ l.rest) (tree_at l.store l.fn.root);
-  below : CellBelow l.store l.cell;
+  tree : subtree_at (drop l.step-index l.rest) (cell_tree (states l.store) l.cell) ≡ subtree_at (l.fn.first ∷ l.rest) (tree_at (states l.store) l.fn.root);
+  below : CellBelow (states l.store) l.cell;
 }

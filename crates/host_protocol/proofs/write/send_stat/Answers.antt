@@ -1,11 +1,9 @@
 use Rattle.std.proofs.Common.{subst}
 use Rattle.std.proofs.lemmas.Result.{on_ok_weaker}
 use Rattle.serde.specs.Event.{Logs, text}
-use Rattle.host_protocol_spec.specs.Replies as line
 use Rattle.host_protocol.proofs.write.send_stat.Goals as goal
 
 pub returns : goal.returns
-unfolding line.reply_data
 returns g c =
     let nodes = c.in_ok-member.ensures in
     let ok = c.in_ok-member-2.ensures in

@@ -4,6 +4,7 @@ use Rattle.value_model.specs.Plain.{values, values_in}
 use Rattle.values.specs.Seen.{of_fields, of_entries, of_items}
 use Rattle.node_store.specs.Loads.{IsLoading}
 use Rattle.node_store.specs.Nodes.{rows}
+use Rattle.node_store.specs.Paged.{states, IsLonger}
 use Rattle.node_store.proofs.load.+load.Given as goal
 
 abbrev pub decreases-load_cell : goal.decreases-load_cell
@@ -29,18 +30,21 @@ decreases-load_items l = 3 * values_in (of_items l.items.now.items) + 1
 
 abbrev pub invariant-load_fields-loop-f : goal.invariant-load_fields-loop-f
 invariant-load_fields-loop-f l = let rest = of_fields (drop l.f-index l.fields.items) in record {
-  loading : IsLoading l.fn.store (of_fields l.fields.items) l.store l.table rest;
+  loading : IsLoading (states l.fn.store) (of_fields l.fields.items) (states l.store) l.table rest;
   fewer : values_in rest ≤ values_in (of_fields l.fields.items);
+  longer : IsLonger l.fn.store l.store;
 }
 
 abbrev pub invariant-load_entries-loop-e : goal.invariant-load_entries-loop-e
 invariant-load_entries-loop-e l = let rest = of_entries (drop l.e-index l.entries.items) in record {
-  loading : IsLoading l.fn.store (of_entries l.entries.items) l.store l.table rest;
+  loading : IsLoading (states l.fn.store) (of_entries l.entries.items) (states l.store) l.table rest;
   fewer : values_in rest ≤ values_in (of_entries l.entries.items);
+  longer : IsLonger l.fn.store l.store;
 }
 
 abbrev pub invariant-load_items-loop-v : goal.invariant-load_items-loop-v
 invariant-load_items-loop-v l = let rest = of_items (drop l.v-index l.items.items) in record {
-  loading : IsLoading l.fn.store (of_items l.items.items) l.store (rows kind.List [] l.cells.items) rest;
+  loading : IsLoading (states l.fn.store) (of_items l.items.items) (states l.store) (rows kind.List [] l.cells.items) rest;
   fewer : values_in rest ≤ values_in (of_items l.items.items);
+  longer : IsLonger l.fn.store l.store;
 }

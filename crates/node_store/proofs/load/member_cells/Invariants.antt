@@ -1,5 +1,5 @@
 use Rattle.std.proofs.Common.{◌≡◌, ◌++◌, map, drop}
-use Rattle.node_store.specs.declared.node.Cell.TheVariants as cell
+use Rattle.page_tables.specs.declared.cell.Cell.TheVariants as cell
 use Rattle.node_store.proofs.load.member_cells.Given as goal
 
 abbrev pub invariant-loop-key : goal.invariant-loop-key

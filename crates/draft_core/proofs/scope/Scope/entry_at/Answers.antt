@@ -1,3 +1,4 @@
+use Rattle.node_store.specs.Paged.{states}
 use Rattle.std.proofs.Common.{◌≡◌, subst}
 use Rattle.std.specs.Prelude.{Option, Some}
 use Rattle.run_heap.specs.declared.content.Content.{Content}
@@ -10,6 +11,6 @@ use Rattle.draft_core.proofs.scope.Scope.entry_at.Goals as goal
 
 pub returns-clause-stored : goal.returns-clause-stored
 returns-clause-stored c =
-    let h = heap c.args.store.now c.args.self.now in
-    ok_more c.value.result (λ v. value_at c.args.i (rows_of (looked c.args.store.now c.in-Some.look)) ≡ Some v) (IsStored h) c.value.ensures
+    let h = heap (states c.args.store.now) c.args.self.now in
+    ok_more c.value.result (λ v. value_at c.args.i (rows_of (looked (states c.args.store.now) c.in-Some.look)) ≡ Some v) (IsStored h) c.value.ensures
     (λ v e. entry_stored h c.args.of.now c.args.i v c.requires.stands.sound (container_owned h c.args.of.now c.requires.container) (subst (λ (o : Option Content). value_at c.args.i (rows_of o) ≡ Some v) c.in-Some.ensures.0 e))

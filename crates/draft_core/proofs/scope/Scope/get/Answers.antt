@@ -1,3 +1,4 @@
+use Rattle.node_store.specs.Paged.{states}
 use Rattle.std.proofs.Common.{ap, ◌∙◌, sym}
 use Rattle.run_heap.specs.declared.content.Content.{Content}
 use Rattle.run_heap.specs.Heap.{shown}
@@ -11,7 +12,7 @@ use Rattle.draft_core.proofs.scope.Scope.get.Goals as goal
 
 pub returns-in-Some-clause-fits : goal.returns-in-Some-clause-fits
 returns-in-Some-clause-fits c =
-    let h = heap c.args.store.now c.args.self.now in
+    let h = heap (states c.args.store.now) c.args.self.now in
     let of = c.args.of.now in
-    answered c.entry.result (then_read (λ (d : Content). entry c.args.key.now d.kind d.table) (looked c.args.store.now c.in-Some.look)) (Fits h) c.entry.ensures
+    answered c.entry.result (then_read (λ (d : Content). entry c.args.key.now d.kind d.table) (looked (states c.args.store.now) c.in-Some.look)) (Fits h) c.entry.ensures
     (λ v e. shown_entry h c.args.key.now (shown h of) v (shown_content h of c.requires.stands.sound c.requires.owned) (ap (then_read (λ (d : Content). entry c.args.key.now d.kind d.table)) (sym c.in-Some.ensures.0) ∙ e))

@@ -1,3 +1,4 @@
+use Rattle.node_store.specs.Paged.{states}
 use Rattle.std.proofs.Common.{◌∙◌, sym}
 use Rattle.draft_slots.specs.Looks.{looked}
 use Rattle.draft_slots.proofs.LookFacts.{looked_some}
@@ -8,7 +9,7 @@ use Rattle.draft_core.proofs.scope.Scope.may_remove.Goals as goal
 
 pub returns-in-Some : goal.returns-in-Some
 returns-in-Some c =
-    let ts = c.args.store.now in
+    let ts = (states c.args.store.now) in
     let h = heap ts c.args.self.now in
     let ours = owns_ours h c.args.of.now (sym (c.owns.ensures ts) ∙ c.if-not-owns.false) in
     remove_looked h c.args.of.now c.args.key.now (looked ts c.in-Some.look) c.plan_remove.result c.requires.stands.sound c.in-Some.ensures.0 (looked_some ts c.in-Some.look c.in-Some.ensures.1) c.requires.owned ours c.plan_remove.ensures

@@ -1,3 +1,4 @@
+use Rattle.node_store.specs.Paged.{states}
 use Rattle.std.proofs.Common.{◌∙◌, refl, sym, ap, subst}
 use Rattle.std.specs.Ordering.{nat_cmp}
 use Rattle.std.specs.BTreeMap.{is_at}
@@ -9,25 +10,25 @@ use Rattle.draft_core.proofs.Kept.{node_fits, node_copied}
 use Rattle.draft_core.proofs.scope.Scope.open.Goals as goal
 
 pub returns-then-name-self-clause-own : goal.returns-then-name-self-clause-own
-returns-then-name-self-clause-own c = later_own c.args.store.now c.args.self.now c.args.name c.requires.name c.if-name-self.true
+returns-then-name-self-clause-own c = later_own (states c.args.store.now) c.args.self.now c.args.name c.requires.name c.if-name-self.true
 
 pub node_content-requires-clause-fit : goal.node_content-requires-clause-fit
-node_content-requires-clause-fit c = node_fits c.args.store.now c.args.self.now c.args.name c.locate-id.result c.given.result c.requires.stands c.locate-id.ensures.place c.given.ensures
+node_content-requires-clause-fit c = node_fits (states c.args.store.now) c.args.self.now c.args.name c.locate-id.result c.given.result c.requires.stands c.locate-id.ensures.place c.given.ensures
 
 pub returns-in_err-insert-clause-heap : goal.returns-in_err-insert-clause-heap
-returns-in_err-insert-clause-heap c = heap_unchanged c.args.store.now c.args.self.now _ (record { number = refl; root = refl; len = refl; drafts = refl }) refl c.args.name (λ q other. ap (lookup (is_at (nat_cmp q))) c.in_err-insert.ensures.err) (ap (lookup (is_at (nat_cmp c.args.name))) c.in_err-insert.ensures.err)
+returns-in_err-insert-clause-heap c = heap_unchanged (states c.args.store.now) c.args.self.now _ (record { number = refl; root = refl; len = refl; drafts = refl }) refl c.args.name (λ q other. ap (lookup (is_at (nat_cmp q))) c.in_err-insert.ensures.err) (ap (lookup (is_at (nat_cmp c.args.name))) c.in_err-insert.ensures.err)
 
 pub returns-in_err-insert-clause-stands : goal.returns-in_err-insert-clause-stands
-returns-in_err-insert-clause-stands c = stands_as c.args.store.now c.args.self.now _ c.requires.stands (record { number = refl; root = refl; len = refl; drafts = refl }) (subst IsSound (sym (returns-in_err-insert-clause-heap c)) c.requires.stands.sound)
+returns-in_err-insert-clause-stands c = stands_as (states c.args.store.now) c.args.self.now _ c.requires.stands (record { number = refl; root = refl; len = refl; drafts = refl }) (subst IsSound (sym (returns-in_err-insert-clause-heap c)) c.requires.stands.sound)
 
 pub returns-clause-heap : goal.returns-clause-heap
 returns-clause-heap c =
     let updates = c.in_ok-insert.ensures.updates in
-    heap_opened c.args.store.now c.args.self.now _ (record { number = refl; root = refl; len = refl; drafts = refl }) refl c.args.name
+    heap_opened (states c.args.store.now) c.args.self.now _ (record { number = refl; root = refl; len = refl; drafts = refl }) refl c.args.name
     (λ q other. updates.2 q (apart c.args.name q other))
     c.in_ok-content.content c.if-name-self.false updates.1
     (none_there _ c.if-contains_key.ensures)
-    (node_copied c.args.store.now c.args.self.now c.args.name c.locate-id.result c.given.result c.requires.stands c.locate-id.ensures.place c.given.ensures ∙ c.in_ok-content.ensures)
+    (node_copied (states c.args.store.now) c.args.self.now c.args.name c.locate-id.result c.given.result c.requires.stands c.locate-id.ensures.place c.given.ensures ∙ c.in_ok-content.ensures)
 
 pub returns-clause-stands : goal.returns-clause-stands
-returns-clause-stands c = stands_as c.args.store.now c.args.self.now _ c.requires.stands (record { number = refl; root = refl; len = refl; drafts = refl }) (subst IsSound (sym (returns-clause-heap c)) c.requires.stands.sound)
+returns-clause-stands c = stands_as (states c.args.store.now) c.args.self.now _ c.requires.stands (record { number = refl; root = refl; len = refl; drafts = refl }) (subst IsSound (sym (returns-clause-heap c)) c.requires.stands.sound)

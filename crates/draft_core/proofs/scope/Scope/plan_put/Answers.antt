@@ -1,3 +1,4 @@
+use Rattle.node_store.specs.Paged.{states}
 use Rattle.std.proofs.Common.{◌∙◌, sym}
 use Rattle.draft_slots.specs.Looks.{looked}
 use Rattle.draft_slots.proofs.LookFacts.{looked_some}
@@ -8,7 +9,7 @@ use Rattle.draft_core.proofs.scope.Scope.plan_put.Goals as goal
 
 pub returns-in-Some : goal.returns-in-Some
 returns-in-Some c =
-    let ts = c.args.store.now in
+    let ts = (states c.args.store.now) in
     let h = heap ts c.args.self.now in
     let ours = owns_ours h c.args.of.now (sym (c.owns.ensures ts) ∙ c.if-not-owns.false) in
     let ours_too = owns_ours h c.args.value (sym (c.owns-2.ensures ts) ∙ c.if-not-owns-2.false) in

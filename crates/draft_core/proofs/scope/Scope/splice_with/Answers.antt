@@ -1,3 +1,4 @@
+use Rattle.node_store.specs.Paged.{states}
 use Rattle.std.proofs.Common.{◌≡◌, ◌∙◌, List, ◌∷◌, [], ap, sym, subst}
 use Rattle.run_heap.specs.Heap.{with_object}
 use Rattle.run_heap.proofs.Laws.{grows_objects, grows_refl}
@@ -12,12 +13,12 @@ use Rattle.draft_core.proofs.scope.Scope.splice_with.Goals as goal
 
 pub returns-in_err-reserve-clause-grows : goal.returns-in_err-reserve-clause-grows
 returns-in_err-reserve-clause-grows c =
-    let h = heap c.args.store.now c.args.self.now in
-    subst (Grows h) (sym (c.reserve.ensures.heap c.args.store.now)) (grows_refl h)
+    let h = heap (states c.args.store.now) c.args.self.now in
+    subst (Grows h) (sym (c.reserve.ensures.heap (states c.args.store.now))) (grows_refl h)
 
 pub change-requires-clause-table : goal.change-requires-clause-table
 change-requires-clause-table c =
-    let ts = c.args.store.now in
+    let ts = (states c.args.store.now) in
     let h = heap ts c.args.self.now in
     let of = c.args.of.now in
     let items = c.args.items.now in
@@ -26,7 +27,7 @@ change-requires-clause-table c =
 
 pub returns-clause-stands : goal.returns-clause-stands
 returns-clause-stands c =
-    let ts = c.args.store.now in
+    let ts = (states c.args.store.now) in
     let others = c.args.others.now in
     let g = heap ts c.change.new.self in
     let before = subst (λ h. AllStored h others) (sym (c.reserve.ensures.heap ts)) c.requires.others in
@@ -35,7 +36,7 @@ returns-clause-stands c =
 
 pub returns-clause-grows : goal.returns-clause-grows
 returns-clause-grows c =
-    let ts = c.args.store.now in
+    let ts = (states c.args.store.now) in
     let h = heap ts c.args.self.now in
     let g = heap ts c.change.new.self in
     let list = c.in_ok-list.list in

@@ -1,3 +1,4 @@
+use Rattle.node_store.specs.Paged.{states}
 use Rattle.std.proofs.Common.{◌≡◌, ◌∙◌, ◌<◌, length, sym, subst, arith}
 use Rattle.run_heap.specs.declared.value.Rv.{Rv}
 use Rattle.run_heap.specs.Sound.{Owned}
@@ -8,7 +9,7 @@ use Rattle.draft_runs.proofs.run.Run.answer.Goals as goal
 
 pub returns-then-i-len : goal.returns-then-i-len
 returns-then-i-len c =
-    let h = heap c.args.self.now.store c.args.self.now.scope in
+    let h = heap (states c.args.self.now.store) c.args.self.now.scope in
     let vs = c.args.self.now.values in
     let d = c.index.result.now in
     let less = c.if-i-len.true in

@@ -1,3 +1,4 @@
+use Rattle.node_store.specs.Paged.{states}
 use Rattle.std.proofs.Common.{◌∙◌, ◌<◌, ℕ, sym, ap, subst, get_or}
 use Rattle.std.specs.Prelude.{Some, Option}
 use Rattle.run_heap.specs.declared.value.Rv.{Rv}
@@ -11,7 +12,7 @@ use Rattle.draft_slots.proofs.look.Look.peek.Goals as goal
 pub cell-requires-clause-in_range : goal.cell-requires-clause-in_range
 cell-requires-clause-in_range c =
     let inside = rw c.in-Node.is at c.requires.in_range in
-    subst (λ (n : ℕ). c.args.i < n) (count_node c.in-Node.field-1 (tree_at c.args.store.now c.in-Node.id)) inside
+    subst (λ (n : ℕ). c.args.i < n) (count_node c.in-Node.field-1 (tree_at (states c.args.store.now) c.in-Node.id)) inside
 
 pub returns-in-Own : goal.returns-in-Own
 returns-in-Own c =
@@ -24,6 +25,6 @@ returns-in-Node c =
     rw c.in-Node.is (
     record {
       there = c.cell.ensures.value;
-      value = value_given c.args.store.now c.in-Node.field-1 c.args.i (branches_of (tree_at c.args.store.now c.in-Node.id)) c.cell.result.now look.0 c.cell.ensures.below c.cell.ensures.child;
+      value = value_given (states c.args.store.now) c.in-Node.field-1 c.args.i (branches_of (tree_at (states c.args.store.now) c.in-Node.id)) c.cell.result.now look.0 c.cell.ensures.below c.cell.ensures.child;
     }
     )

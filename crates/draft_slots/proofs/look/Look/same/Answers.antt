@@ -1,3 +1,4 @@
+use Rattle.node_store.specs.Paged.{states}
 use Rattle.std.proofs.Common.{◌≡◌, ◌∙◌, ◌<◌, ℕ, ap, subst, get_or}
 use Rattle.numbered.specs.Store.{tree_at}
 use Rattle.run_heap.specs.Operations.{Rows, value_at}
@@ -9,7 +10,7 @@ use Rattle.draft_slots.proofs.look.Look.same.Goals as goal
 pub node_same-requires-clause-in_range : goal.node_same-requires-clause-in_range
 node_same-requires-clause-in_range c =
     let inside = rw c.in-Node.is at c.requires.in_range in
-    subst (λ (n : ℕ). c.args.i < n) (count_node c.in-Node.given (tree_at c.args.store.now c.in-Node.id)) inside
+    subst (λ (n : ℕ). c.args.i < n) (count_node c.in-Node.given (tree_at (states c.args.store.now) c.in-Node.id)) inside
 
 pub returns-in-Own : goal.returns-in-Own
 returns-in-Own c =

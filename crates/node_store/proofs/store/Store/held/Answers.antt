@@ -1,23 +1,25 @@
-use Rattle.std.proofs.Common.{◌-◌, [], List, length, get_or, ap, arith}
-use Rattle.numbered.specs.Tree.{Tree}
-use Rattle.numbered.specs.Store.{IsNumber}
-use Rattle.node_store.proofs.Grown.{length_news, held_at, is_store}
-use Rattle.node_store.specs.Kept.{news}
-use Rattle.node_store.proofs.Shown.{read_held}
+use Rattle.std.proofs.Common.{◌≤◌, length, ap, subst, arith}
+use Rattle.numbered.specs.Store.{IsStore}
+use Rattle.node_store.specs.Paged.{Paged, states}
+use Rattle.node_store.proofs.Grown.{many_states, held_store}
+use Rattle.node_store.proofs.Shown.{read_store}
 use Rattle.node_store.proofs.store.Store.held.Goals as goal
 
 pub index-requires : goal.index-requires
 index-requires c =
-    let view = ap (λ (ts : List Tree). length ts) c.self.view_is in
-    let long = length_news [] c.self.inside.nodes.items in
-    grind (arith, c.requires, view, long)
+    let view = ap (λ (s : Paged). length (states s)) c.self.view_is in
+    let many = many_states c.self.inside.pages c.self.inside.nodes.items in
+    grind (arith, c.requires, view, many)
 
 pub returns-clause-held : goal.returns-clause-held
 returns-clause-held c =
+    let ps = c.self.inside.pages in
     let hs = c.self.inside.nodes.items in
-    let given : IsNumber (news [] hs) c.args.id = rw c.self.view_is (c.get.ensures.from_one, c.requires) in
-    let there = read_held (news [] hs) (get_or hs (c.args.id - 1) c.index.result.now) c.args.id (is_store hs c.self.invariant.sound) given (held_at hs c.args.id c.index.result.now c.self.invariant.sound given) in
+    let view = ap (λ (s : Paged). length (states s)) c.self.view_is in
+    let many = many_states ps hs in
+    let l : c.args.id ≤ length hs = grind (arith, c.requires, view, many) in
+    let there = read_store ps hs c.args.id c.index.result.now c.self.invariant.sound c.self.invariant.named c.get.ensures.from_one l in
     rw (← c.self.view_is, c.index.ensures, c.get.ensures.value) there
 
 pub returns-clause-store : goal.returns-clause-store
-returns-clause-store c = rw (← c.self.view_is) (is_store c.self.inside.nodes.items c.self.invariant.sound)
+returns-clause-store c = subst (λ (s : Paged). IsStore (states s)) c.self.view_is (held_store c.self.inside.pages c.self.inside.nodes.items c.self.invariant.sound)

@@ -1,6 +1,6 @@
 use Rattle.std.proofs.Common.{◌∙◌, List, map, ap, sym}
 use Rattle.value_model.specs.declared.key.Key.{Key}
-use Rattle.node_store.specs.declared.node.Cell.{Cell}
+use Rattle.page_tables.specs.declared.cell.Cell.{Cell}
 use Rattle.node_store.specs.Nodes.{is_node}
 use Rattle.node_store.proofs.Tables.{zip_keys, zip_cells}
 use Rattle.node_store.proofs.table.Table.into_node.Goals as goal

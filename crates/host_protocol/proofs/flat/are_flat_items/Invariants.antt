@@ -1,7 +1,0 @@
-use Rattle.std.proofs.Common.{◌≡◌, drop}
-use Rattle.serde_json.specs.View.{items_view}
-use Rattle.host_protocol_spec.specs.Commands as spec
-use Rattle.host_protocol.proofs.flat.are_flat_items.Given as goal
-
-abbrev pub invariant-loop-item : goal.invariant-loop-item
-invariant-loop-item l = spec.are_flat_items (items_view (drop l.item-index l.items)) ≡ spec.are_flat_items (items_view l.items)

@@ -1,0 +1,4 @@
+pub mod Edits
+pub mod Examples
+pub mod Pages
+pub mod Rebuilt
