@@ -1,0 +1,4 @@
+pub mod Cycles
+pub mod Examples
+pub mod Final
+pub mod Written
