@@ -154,7 +154,7 @@ module _ (h : Heap) (s : IsSound h) where
     | false ↦ λ p. copies n id (grind (arith, p)) e
   ] refl
 
-  source_number : (n id : ℕ) → source_in (h.object n) ≡ Some id → IsNumber h.states id
+  pub source_number : (n id : ℕ) → source_in (h.object n) ≡ Some id → IsNumber h.states id
   source_number n id e = subst (λ (o : Option ℕ). HasSource h o) e (s.sources n)
 
   pub no_primitive : (id : ℕ) (k : Key) → IsNumber h.states id → tree_at h.states id ≡ tree.prim k → ⊥

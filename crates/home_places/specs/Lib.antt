@@ -1,0 +1,3 @@
+pub mod Examples
+pub mod Homes
+pub mod Paths
