@@ -39,10 +39,10 @@ small v d w l r =
     let b : nat_lt (2 ^ 20) (weight v) ≡ false = grind (arith, w) in
     rw (a, b, l, r) refl
 
-record InOrder (v : Plain) : Type 0 where
-  long : has_long_key v ≡ false
-  reserved : has_reserved_key v ≡ false
-  wells : well v ≡ true
+pub record InOrder (v : Plain) : Type 0 where
+  pub long : has_long_key v ≡ false
+  pub reserved : has_reserved_key v ≡ false
+  pub wells : well v ≡ true
 
 record AllInOrder (of : Kind) (es : Entries) : Type 0 where
   long : any_long_key es ≡ false
@@ -115,7 +115,7 @@ table_of h of es (Some c) t a = record { rows = c.table; reads = a.1; table = su
 
 module _ (h : Heap) (s : IsSound h) where
   mutual
-    in_order : (f : Final) (v : Rv) → IsStored h v → Reads h f v → InOrder (plain_of f)
+    pub in_order : (f : Final) (v : Rv) → IsStored h v → Reads h f v → InOrder (plain_of f)
     in_order (prim k) v d r = record { long = refl; reserved = refl; wells = refl }
     in_order (frozen t) v d r =
         let there : IsNumber h.states r.0 = subst (λ (w : Rv). IsStored h w) r.1 d in

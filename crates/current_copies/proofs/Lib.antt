@@ -1,0 +1,4 @@
+pub mod CopyLaws
+pub mod PlaceLaws
+pub mod ShownLaws
+pub mod SourceLaws
