@@ -15,7 +15,7 @@ use Rattle.run_heap.specs.declared.content.Content.{Content}
 use Rattle.run_heap.specs.Heap.{Heap, opened, fresh}
 use Rattle.run_heap.specs.Operations.{put_at}
 use Rattle.result_trees.specs.Final.{Final, Finals, prim, frozen, object, none, entry, plain_of, with_entry, read_object, read_value, final}
-use Rattle.result_trees.specs.Written.{is_written, any_marked}
+use Rattle.result_trees.specs.Written.{is_written, kept, any_marked}
 
 abbrev a : Key
 a = Text (codes "a")
@@ -77,6 +77,16 @@ root_written = refl
 
 b_unwritten : any_marked alias 2 1 ≡ false
 b_unwritten = refl
+
+-- a written object keeps no number, nor does one that leads to it
+kept_b : kept alias 2 (is_written alias (holding 2 0)) ≡ Some 2
+kept_b = refl
+
+kept_a : kept alias 1 (is_written alias (holding 1 1)) ≡ None
+kept_a = refl
+
+kept_root : kept (put x (Prim (int 1)) 1 start) 0 (is_written (put x (Prim (int 1)) 1 start) (object 0 kind.Obj (entry a (holding 1 1) none))) ≡ None
+kept_root = refl
 
 -- ---- cycles: `state.a.p = state;`, and two lists that hold one another
 no_tree : final (put x (named 0) 1 start) Undefined ≡ None
