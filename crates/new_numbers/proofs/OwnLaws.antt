@@ -75,7 +75,7 @@ found_between first n t (d ∷ ds) i e =
 -- one of the two is the last, or neither is
 same_name : (first m n : ℕ) (t u : Tree) (ds : List (ℕ × Tree)) → InTurn first ds → find nat_cmp m ds ≡ Some t → find nat_cmp n ds ≡ Some u → number t ≡ number u → m ≡ n
 same_name first m n t u [] i p q e = absurd (cc)
-same_name first m n t u (d ∷ ds) i p q e = by (nat_cmp m d.0) (nat_cmp n d.0) refl refl p q
+same_name first m n t u (d ∷ ds) i p q e = by (nat_cmp m d.0) (nat_cmp n d.0) refl refl p q (λ x y. same_name first m n t u ds i.1 x y e)
   where
     rest : (v : Tree) (k : ℕ) → find nat_cmp k ds ≡ Some v → number v ≡ first + length ds + 1 → ⊥
     rest v k a b = let x = found_between first k v ds i.1 a in let high = x.high in absurd (omega (arith, high, b))
@@ -83,16 +83,16 @@ same_name first m n t u (d ∷ ds) i p q e = by (nat_cmp m d.0) (nat_cmp n d.0) 
     one : (v w : Tree) (k : ℕ) → Some d.1 ≡ Some v → find nat_cmp k ds ≡ Some w → number v ≡ number w → ⊥
     one v w k a b same = let s : d.1 ≡ v = cc in rest w k b (sym same ∙ ap number (sym s) ∙ i.0)
 
-    by : (a b : Ordering) → nat_cmp m d.0 ≡ a → nat_cmp n d.0 ≡ b → cond (is_eq a) (Some d.1) (find nat_cmp m ds) ≡ Some t → cond (is_eq b) (Some d.1) (find nat_cmp n ds) ≡ Some u → m ≡ n
-    by Equal Equal x y p q = exact_unsigned m d.0 x ∙ sym (exact_unsigned n d.0 y)
-    by Equal Less x y p q = absurd (one t u n p q e)
-    by Equal Greater x y p q = absurd (one t u n p q e)
-    by Less Equal x y p q = absurd (one u t m q p (sym e))
-    by Greater Equal x y p q = absurd (one u t m q p (sym e))
-    by Less Less x y p q = same_name first m n t u ds i.1 p q e
-    by Less Greater x y p q = same_name first m n t u ds i.1 p q e
-    by Greater Less x y p q = same_name first m n t u ds i.1 p q e
-    by Greater Greater x y p q = same_name first m n t u ds i.1 p q e
+    by : (a b : Ordering) → nat_cmp m d.0 ≡ a → nat_cmp n d.0 ≡ b → cond (is_eq a) (Some d.1) (find nat_cmp m ds) ≡ Some t → cond (is_eq b) (Some d.1) (find nat_cmp n ds) ≡ Some u → (find nat_cmp m ds ≡ Some t → find nat_cmp n ds ≡ Some u → m ≡ n) → m ≡ n
+    by Equal Equal x y p q law = exact_unsigned m d.0 x ∙ sym (exact_unsigned n d.0 y)
+    by Equal Less x y p q law = absurd (one t u n p q e)
+    by Equal Greater x y p q law = absurd (one t u n p q e)
+    by Less Equal x y p q law = absurd (one u t m q p (sym e))
+    by Greater Equal x y p q law = absurd (one u t m q p (sym e))
+    by Less Less x y p q law = law p q
+    by Less Greater x y p q law = law p q
+    by Greater Less x y p q law = law p q
+    by Greater Greater x y p q law = law p q
 
 turns : (ts : List Tree) (h : Heap) (f : Final) → AreInTurn ts (numbered ts h f nothing).1
 turns ts h f = in_turn ts h f nothing (record { turn = tt; count = refl })

@@ -31,7 +31,6 @@ pub fn law_one_state()
 {}
 
 /// Two objects never share a new number, and a new number is none of the store's.
-#[tactic(auto, using(crate::proofs::OwnLaws::own_number, crate::proofs::OwnLaws::new_number))]
 pub fn law_own_numbers()
     ensures apart { (ts : List Tree) (h : Heap) (f : Final) (m n : ℕ) (t u : Tree) → find nat_cmp m (numbered ts h f nothing).1.done ≡ Some t → find nat_cmp n (numbered ts h f nothing).1.done ≡ Some u → number t ≡ number u → m ≡ n }
     ensures new { (ts : List Tree) (h : Heap) (f : Final) (n : ℕ) (t : Tree) → find nat_cmp n (numbered ts h f nothing).1.done ≡ Some t → length ts < number t }
