@@ -120,7 +120,7 @@ module _ (h : Heap) (t : Tree) (s : IsSound h) (sourced : IsSourced h.states t) 
       by_place_of None p = refl
       by_place_of (Some v) p = made_as h.scope n v (place_of h.states s.store q u v o p)
 
-  new_object : (n : ℕ) → h.next ≤ n → after.object n ≡ made_at h.scope n (place (n - h.next) t)
+  pub new_object : (n : ℕ) → h.next ≤ n → after.object n ≡ made_at h.scope n (place (n - h.next) t)
   new_object n m = let no : nat_lt n h.next ≡ false = grind (arith, m) in rw no refl
 
   -- the objects of a place of the copy that keeps its numbers

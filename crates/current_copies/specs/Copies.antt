@@ -1,6 +1,6 @@
 -- What `current` copies. What is read from a draft becomes fresh objects, one for each container place, as a deep copy of a state
 -- has them; each has as source the number that what it copies would keep at that moment, where there is one.
-use Rattle.std.specs.Prelude.{ℕ, zero, suc, ◌+◌, ◌-◌, Option, Some, None, option_map, nat_lt, if◌then◌else◌, div}
+use Rattle.std.specs.Prelude.{ℕ, zero, suc, ◌+◌, ◌-◌, Option, Some, None, option_map, nat_lt, if◌then◌else◌, ◌/◌}
 use Rattle.value_model.specs.declared.kind.Kind.{Kind}
 use Rattle.value_model.specs.Plain.{Plain, weight, values}
 use Rattle.numbered.specs.Tree as tree
@@ -62,4 +62,4 @@ copy_root (tree.node id kind es) h = named_value h.scope (tree.node h.next kind 
 -- ---- the charge
 -- how many values there are, and a 64th of what they weigh besides
 abbrev pub charge : Plain → ℕ
-charge v = values v + div (weight v - values v) 64
+charge v = values v + (weight v - values v) / 64

@@ -1,5 +1,6 @@
 -- Worked rows. Scope 7 is begun at the state {"a":{"x":0},"h":[]}, whose container a is 1, h is 2, and the root 3; its drafts are
 -- 0 (the root), 1 (a) and 2 (h).
+use Rattle.std.proofs.Math.ListN.{replicate}
 use Rattle.std.specs.Prelude.{◌≡◌, ℕ, pos, List, [], ◌∷◌, codes, refl, Option, Some, None, true, false, Result, Ok, Err, option_map}
 use Rattle.value_model.specs.declared.key.Key.{Key}
 use Rattle.value_model.specs.declared.key.Key.TheVariants.{Null, Int, Text}
@@ -110,6 +111,12 @@ root_copy = refl
 list_copy : (whole (final written (object 0))).object 5 ≡ Some (record { kind = kind.List; table = []; source = Some 2; written = false })
 list_copy = refl
 
--- ---- the charge of {"x":0} is 2; a text of 200 bytes in a list costs 3 more
+-- ---- the charge: {"x":0} has two values and weighs 4; a list of a text of 200 bytes has two values and weighs 202
 small_charge : charge (plain (inner 1 0)) ≡ 2
 small_charge = refl
+
+abbrev long : Key
+long = Text (replicate 200 97)
+
+long_charge : charge (plain (list 1 (prim long))) ≡ 5
+long_charge = refl

@@ -23,7 +23,6 @@ pub fn law_copy_leaves()
 {}
 
 /// What stands for the copy is read as what was copied.
-#[tactic(auto, using(crate::proofs::ShownLaws::copy_read))]
 pub fn law_copy_reads()
     ensures { (h : Heap) (v : Value) (f : Final) (levels : ℕ) → IsSound h → CopiesStand h → IsStored h (returned h v) → final h v ≡ Some f → containers (sources h f) ≤ levels → IsSomeAnd (read_value levels (with_copy (sources h f) h) (copy_root (sources h f) h)) (λ g. plain_of g ≡ plain_of f) }
 {}
