@@ -1,18 +1,16 @@
 -- A heap with a copy is sound, and its copies stand.
-use Rattle.std.proofs.Common.{◌≡◌, ◌≢◌, ℕ, zero, suc, ◌+◌, ◌-◌, ◌<◌, ◌≤◌, refl, ap, sym, ◌∙◌, subst, arith, Bool, true, false, Option, Some, None, ◌⊎◌, inl, inr}
-use Rattle.std.specs.Prelude.{nat_lt, option_map, if◌then◌else◌, ◌&&◌}
-use Rattle.value_model.specs.declared.key.Key.{Key}
-use Rattle.value_model.specs.declared.kind.Kind.{Kind}
+use Rattle.std.proofs.Common.{◌≡◌, ◌≢◌, ℕ, zero, suc, ◌+◌, ◌-◌, ◌<◌, ◌≤◌, refl, ap, sym, ◌∙◌, subst, arith, Bool, true, false, Option, Some, None, inl, inr}
+use Rattle.std.specs.Prelude.{nat_lt, if◌then◌else◌, ◌&&◌}
 use Rattle.value_model.specs.Places.{ascends_at}
 use Rattle.value_model.specs.Plain.{list_of}
 use Rattle.value_model.specs.Search.{left_true, right_true}
 use Rattle.value_model.specs.Well.{all_well, all_fit}
 use Rattle.numbered.proofs.Laws.{place_of}
 use Rattle.numbered.specs.Store.{IsOf, tree_at}
-use Rattle.numbered.specs.Tree.{Tree, Branches, prim, node, plain, plains, containers, place}
+use Rattle.numbered.specs.Tree.{Tree, prim, node, plain, plains, containers, place}
 use Rattle.run_heap.specs.declared.content.Content.{Content}
 use Rattle.run_heap.specs.declared.value.Given.TheVariants as given
-use Rattle.run_heap.specs.Heap.{Heap, drafts, copied, opening, given_table}
+use Rattle.run_heap.specs.Heap.{Heap, copied, opening, given_table}
 use Rattle.run_heap.specs.Laws.{Onwards, ascends_given, stand_given, stored_given}
 use Rattle.run_heap.proofs.Laws.{content_on, place_within, no_place, opened_as}
 use Rattle.run_heap.specs.Operations.{source_in}
@@ -20,8 +18,8 @@ use Rattle.run_heap.specs.Sound.{IsSound, IsContent, IsOpenedAs, HasSource, Keep
 use Rattle.result_trees.specs.Written.{AreOpenedOn, CopiesStand}
 use Rattle.result_trees.proofs.KeptLaws.{place_add}
 use Rattle.result_trees.proofs.OrderLaws.{InOrder}
-use Rattle.current_copies.specs.Copies.{source_of, made, made_at, with_copy}
-use Rattle.current_copies.proofs.PlaceLaws.{IsSourced, AreOrdered, inside, place_sourced, place_ordered, made_full}
+use Rattle.current_copies.specs.Copies.{source_of, made_at, with_copy}
+use Rattle.current_copies.proofs.PlaceLaws.{IsSourced, inside, place_sourced, place_ordered, made_full}
 
 module _ (h : Heap) (t : Tree) (s : IsSound h) (sourced : IsSourced h.states t) (ordered : InOrder (plain t)) where
   abbrev after : Heap
@@ -76,14 +74,14 @@ module _ (h : Heap) (t : Tree) (s : IsSound h) (sourced : IsSourced h.states t) 
         copied = omega (arith, low);
         full = λ n l. by_age (λ (x : Option Content). x ≢ None) n (λ m. s.full n m) (λ m. made_full h.scope n (n - h.next) t (omega (arith, l, m)));
         fresh = λ n l. by_age (λ (x : Option Content). x ≡ None) n (λ m. absurd (omega (arith, l, m)))
-        (λ m. ap (made_at h.scope n) (no_place (n - h.next) t (omega (arith, l, m))));
+            (λ m. ap (made_at h.scope n) (no_place (n - h.next) t (omega (arith, l, m))));
         tables = λ n. by_age (IsContent after) n (λ m. content_on h after (h.object n) on (s.tables n))
-        (λ m. by_place (λ (o : Option Tree). IsContent after (made_at h.scope n o)) (n - h.next) tt
-          (λ u p. let within = place_within (n - h.next) t u p in table_made n u (place_ordered (n - h.next) t u ordered p) (omega (arith, within, m))));
+            (λ m. by_place (λ (o : Option Tree). IsContent after (made_at h.scope n o)) (n - h.next) tt
+            (λ u p. let within = place_within (n - h.next) t u p in table_made n u (place_ordered (n - h.next) t u ordered p) (omega (arith, within, m))));
         drafts = λ n l. by_age (λ (x : Option Content). IsOpenedAs x (opening h n)) n (λ m. s.drafts n l) (λ m. absurd (omega (arith, l, low, m)));
         sources = λ n. by_age (λ (x : Option Content). HasSource after (source_in x)) n (λ m. s.sources n)
-        (λ m. by_place (λ (o : Option Tree). HasSource after (source_in (made_at h.scope n o))) (n - h.next) tt
-          (λ u p. source_made n u (place_sourced h.states (n - h.next) t u sourced p)));
+            (λ m. by_place (λ (o : Option Tree). HasSource after (source_in (made_at h.scope n o))) (n - h.next) tt
+            (λ u p. source_made n u (place_sourced h.states (n - h.next) t u sourced p)));
       }
 
   keeps_itself : (c : Option Content) → Keeps c c

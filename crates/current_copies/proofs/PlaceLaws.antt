@@ -1,17 +1,16 @@
 -- What holds of a tree of sources, and of each of its places.
-use Rattle.std.proofs.Common.{◌≡◌, ◌≢◌, ℕ, zero, suc, ◌+◌, ◌-◌, ◌<◌, ◌≤◌, refl, ap, sym, ◌∙◌, subst, arith, Bool, true, false, Option, Some, None, ◌⊎◌, inl, inr}
+use Rattle.std.proofs.Common.{◌≡◌, ◌≢◌, ℕ, zero, suc, ◌-◌, ◌<◌, ◌≤◌, refl, subst, arith, true, false, Some, None, ◌⊎◌, inr}
 use Rattle.std.specs.Prelude.{List, nat_lt, ⊤, ◌||◌, ◌&&◌, if◌then◌else◌}
 use Rattle.std.proofs.lemmas.Bool.{or_parts}
 use Rattle.value_model.specs.declared.key.Key.{Key}
 use Rattle.value_model.specs.declared.kind.Kind.{Kind}
 use Rattle.value_model.specs.Limits.{is_long_key, is_reserved_at, has_long_key, any_long_key, has_reserved_key, any_reserved_key}
 use Rattle.value_model.specs.Places.{ascends_at}
-use Rattle.value_model.specs.Plain as plain_value
-use Rattle.value_model.specs.Plain.{Plain, Entries, list_of}
+use Rattle.value_model.specs.Plain.{list_of}
 use Rattle.value_model.specs.Search.{left_true, right_true}
 use Rattle.value_model.specs.Well.{well, all_well, all_fit}
-use Rattle.numbered.proofs.Laws.{of_number, children_of}
-use Rattle.numbered.specs.Store.{IsStore, IsNumber, IsOf, AllOf, tree_at}
+use Rattle.numbered.proofs.Laws.{children_of}
+use Rattle.numbered.specs.Store.{IsStore, IsOf, AllOf}
 use Rattle.numbered.specs.Tree.{Tree, Branches, prim, node, none, branch, plain, plains, containers, containers_in, place, place_in}
 use Rattle.result_trees.proofs.OrderLaws.{InOrder}
 use Rattle.current_copies.specs.Copies.{made_at}

@@ -1,6 +1,6 @@
 -- What stands for a copy is read as what was copied.
-use Rattle.std.proofs.Common.{◌≡◌, ℕ, zero, suc, ◌+◌, ◌-◌, ◌<◌, ◌≤◌, max, refl, ap, sym, ◌∙◌, subst, arith, Bool, true, false, Option, Some, None}
-use Rattle.std.specs.Prelude.{nat_lt, option_map, if◌then◌else◌, IsSomeAnd, ◌^◌}
+use Rattle.std.proofs.Common.{◌≡◌, ℕ, suc, ◌+◌, ◌-◌, ◌<◌, ◌≤◌, refl, ap, sym, ◌∙◌, subst, arith, true, false, Option, Some}
+use Rattle.std.specs.Prelude.{nat_lt, IsSomeAnd}
 use Rattle.value_model.specs.declared.key.Key.{Key}
 use Rattle.value_model.specs.declared.kind.Kind.{Kind}
 use Rattle.value_model.specs.Plain as plain_value

@@ -1,11 +1,10 @@
 -- What is read from a sound heap gives a tree of sources that shows the same.
-use Rattle.std.proofs.Common.{◌≡◌, ℕ, [], ◌∷◌, refl, ap, sym, ◌∙◌, subst, Bool, true, false, Option, Some, None, inl}
+use Rattle.std.proofs.Common.{◌≡◌, ℕ, [], ◌∷◌, refl, ap, subst, Bool, true, false, Option, Some, None, inl}
 use Rattle.value_model.specs.declared.kind.Kind.{Kind}
 use Rattle.value_model.specs.Plain as plain_value
 use Rattle.numbered.proofs.Laws.{of_number}
 use Rattle.numbered.specs.Store.{IsNumber, tree_at}
-use Rattle.numbered.specs.Tree as tree
-use Rattle.numbered.specs.Tree.{Tree, Branches, plain, plains}
+use Rattle.numbered.specs.Tree.{plain, plains}
 use Rattle.run_heap.specs.declared.content.Content.{Content}
 use Rattle.run_heap.specs.declared.value.Rv.{Rv}
 use Rattle.run_heap.specs.Heap.{Heap}

@@ -1,11 +1,10 @@
 -- Worked rows. Scope 7 is begun at the state {"a":{"x":0},"h":[]}, whose container a is 1, h is 2, and the root 3; its drafts are
 -- 0 (the root), 1 (a) and 2 (h).
 use Rattle.std.proofs.Math.ListN.{replicate}
-use Rattle.std.specs.Prelude.{◌≡◌, ℕ, pos, List, [], ◌∷◌, codes, refl, Option, Some, None, true, false, Result, Ok, Err, option_map}
+use Rattle.std.specs.Prelude.{◌≡◌, ℕ, pos, List, [], ◌∷◌, codes, refl, Option, Some, None, false, Result, Ok, Err, option_map}
 use Rattle.value_model.specs.declared.key.Key.{Key}
 use Rattle.value_model.specs.declared.key.Key.TheVariants.{Null, Int, Text}
 use Rattle.value_model.specs.declared.kind.Kind.TheVariants as kind
-use Rattle.value_model.specs.Plain as plain_value
 use Rattle.numbered.specs.Tree.{Tree, prim, node, none, branch, plain}
 use Rattle.run_heap.specs.declared.value.Rv.{Rv}
 use Rattle.run_heap.specs.declared.value.Rv.TheVariants.{Undefined, Prim, Obj, Frozen}

@@ -1,5 +1,5 @@
 -- The list of home places ascends.
-use Rattle.std.proofs.Common.{◌≡◌, ℕ, suc, ◌<◌, pos, List, [], ◌∷◌, ◌++◌, refl, ap, sym, ◌∙◌, subst, arith, Bool, true, false, Less, Equal, Greater, Ordering}
+use Rattle.std.proofs.Common.{◌≡◌, ℕ, suc, ◌<◌, pos, List, [], ◌∷◌, ◌++◌, refl, ap, sym, ◌∙◌, subst, arith, Bool, true, false, Less, Ordering}
 use Rattle.std.specs.Prelude.{◌&&◌, if◌then◌else◌, nat_lt, ⊤}
 use Rattle.std.specs.FinMap.Entries.{is_sorted, below_all}
 use Rattle.std.specs.Ordering.{is_lt, ordering_then}
@@ -148,6 +148,12 @@ here_ascends h at n t ps a b = elim (is_home h at n && has_other_number (source_
 abbrev AllAscend : Heap → List Key → Kind → ℕ → Finals → Branches → Type 0
 AllAscend h at of i es bs = AreAscending (homes_in h at of i es bs)
 
+kind_ascends : (es : Finals) (of : Kind) (h : Heap) (at : List Key) (bs : Branches) → ascends_at of (list_of (plains_of es)) ≡ true → all_fit of (plains_of es) ≡ true → (StepsAscend of 0 es → AllAscend h at of 0 es bs) → AllAscend h at of 0 es bs
+kind_ascends es kind.Obj h at bs s f law = law (object_ascends 0 es s)
+kind_ascends es kind.Map h at bs s f law = law (map_ascends 0 es s)
+kind_ascends es kind.List h at bs s f law = law (indexes_ascend 0 es)
+kind_ascends es kind.Set h at bs s f law = subst AreAscending (sym (no_member h at 0 es bs f)) tt
+
 mutual
   pub homes_ascend : (f : Final) (h : Heap) (at : List Key) (t : Tree) → well (plain_of f) ≡ true → AreAscending (homes h at f t)
   homes_ascend (prim k) h at t w = tt
@@ -155,14 +161,8 @@ mutual
   homes_ascend (object n of es) h at t w =
       let first = left_true (ascends_at of (list_of (plains_of es)) && all_fit of (plains_of es)) (all_well (plains_of es)) w in
       let wells = right_true (ascends_at of (list_of (plains_of es)) && all_fit of (plains_of es)) (all_well (plains_of es)) w in
-      let rest = kind_ascends es of h at (branches_of t) (left_true (ascends_at of (list_of (plains_of es))) _ first) (right_true (ascends_at of (list_of (plains_of es))) _ first) wells in
+      let rest = kind_ascends es of h at (branches_of t) (left_true (ascends_at of (list_of (plains_of es))) _ first) (right_true (ascends_at of (list_of (plains_of es))) _ first) (λ a. entries_ascend es of h at 0 (branches_of t) a wells) in
       here_ascends h at n t (homes_in h at of 0 es (branches_of t)) (longer_behind (homes_in h at of 0 es (branches_of t)) (entries_longer h at of 0 es (branches_of t))) rest
-
-  pub kind_ascends : (es : Finals) (of : Kind) (h : Heap) (at : List Key) (bs : Branches) → ascends_at of (list_of (plains_of es)) ≡ true → all_fit of (plains_of es) ≡ true → all_well (plains_of es) ≡ true → AllAscend h at of 0 es bs
-  kind_ascends es kind.Obj h at bs s f w = entries_ascend es kind.Obj h at 0 bs (object_ascends 0 es s) w
-  kind_ascends es kind.Map h at bs s f w = entries_ascend es kind.Map h at 0 bs (map_ascends 0 es s) w
-  kind_ascends es kind.List h at bs s f w = entries_ascend es kind.List h at 0 bs (indexes_ascend 0 es) w
-  kind_ascends es kind.Set h at bs s f w = subst AreAscending (sym (no_member h at 0 es bs f)) tt
 
   pub entries_ascend : (es : Finals) (of : Kind) (h : Heap) (at : List Key) (i : ℕ) (bs : Branches) → StepsAscend of i es → all_well (plains_of es) ≡ true → AllAscend h at of i es bs
   entries_ascend none of h at i bs s w = tt

@@ -18,7 +18,7 @@ use Rattle.numbered.proofs.Laws.{of_number}
 use Rattle.numbered.specs.Store.{IsStore, IsOf, AllOf, tree_at}
 use Rattle.numbered.specs.Tree as tree
 use Rattle.numbered.specs.Tree.{Tree, Branches, plain, plains, containers, place, place_in}
-use Rattle.host_machine.specs.Paths.{branch_list, subtree, subtree_in, then_subtree, subtree_at}
+use Rattle.host_machine.specs.Paths.{branch_list, subtree, then_subtree, subtree_at}
 use Rattle.run_heap.specs.declared.value.Rv.{Rv}
 use Rattle.run_heap.specs.declared.content.Content.{Content}
 use Rattle.run_heap.specs.declared.value.Given.TheVariants as given

@@ -1,7 +1,7 @@
 -- The steps to a container's entries: each leads to its own entry.
-use Rattle.std.proofs.Common.{◌≡◌, ◌≢◌, ℕ, suc, List, [], ◌∷◌, map, ap, refl, sym, ◌∙◌, subst, Bool, true, cond, Option, Some, None, Less, Equal, Greater, Ordering}
+use Rattle.std.proofs.Common.{◌≡◌, ◌≢◌, ℕ, suc, List, [], ◌∷◌, ap, refl, sym, ◌∙◌, subst, Bool, true, cond, Option, Some, None, Less}
 use Rattle.std.specs.Prelude.{◌&&◌, ⊤, option_map}
-use Rattle.std.specs.Ordering.{is_eq, is_lt}
+use Rattle.std.specs.Ordering.{is_lt}
 use Rattle.std.specs.FinMap.Entries.{find, is_sorted, below_all}
 use Rattle.std.proofs.lemmas.Cmp.{tied_itself}
 use Rattle.value_model.specs.declared.key.Key.{Key}

@@ -1,8 +1,6 @@
 -- Home places: those where the draft of that very place stands in the result.
-use Rattle.std.specs.Prelude.{◌≡◌, ℕ, suc, pos, ◌==◌, List, [], ◌∷◌, ◌++◌, Option, Some, None, Bool, true, false, ◌&&◌, not, nat_lt, map, slice_get, if◌then◌else◌, IsTrue, ⊤}
+use Rattle.std.specs.Prelude.{ℕ, suc, pos, ◌==◌, List, [], ◌∷◌, ◌++◌, Option, Some, None, Bool, true, false, ◌&&◌, not, nat_lt, map, slice_get, if◌then◌else◌}
 use Rattle.std.specs.FinMap.Entries.{find}
-use Rattle.std.specs.declared.cmp.Ordering.TheVariants.{Less}
-use Rattle.std.specs.Cmp.Lexicographic.{slice_cmp}
 use Rattle.value_model.specs.declared.key.Key.{Key}
 use Rattle.value_model.specs.declared.key.Key.TheVariants.{Int}
 use Rattle.value_model.specs.declared.kind.Kind.{Kind}

@@ -19,7 +19,6 @@ ghost use Rattle.home_places.specs.Paths.{among, AreAscending, AreHomes};
 
 /// The list of home places holds every home place whose number differs from the old one, and no other place; it ascends; and each
 /// leads in the opening state and in the new one to containers of one kind.
-#[tactic(auto, using(crate::proofs::EndLaws::listed, crate::proofs::EndLaws::ascending, crate::proofs::EndLaws::of_one_kind))]
 pub fn law_home_places()
     ensures listed { (ts : List Tree) (h : Heap) (v : Value) (f : Final) (path : List KeyModel) → Ends ts h v f → among (homes h [] f (new_state ts h f)) path ≡ changed_homes h f (new_state ts h f) path }
     ensures ascending { (ts : List Tree) (h : Heap) (v : Value) (f : Final) → Ends ts h v f → AreAscending (homes h [] f (new_state ts h f)) }

@@ -1,11 +1,10 @@
 -- Two objects never share a new number, and none is that of a state that was there.
-use Rattle.std.proofs.Common.{◌≡◌, ℕ, ◌+◌, ◌<◌, ◌≤◌, List, [], ◌∷◌, ◌++◌, length, refl, ap, sym, ◌∙◌, subst, arith, cond, Option, Some, None, Less, Equal, Greater, Ordering}
+use Rattle.std.proofs.Common.{◌≡◌, ℕ, ◌+◌, ◌<◌, ◌≤◌, List, [], ◌∷◌, ◌++◌, length, refl, ap, sym, ◌∙◌, arith, cond, Option, Some, None, Less, Equal, Greater, Ordering}
 use Rattle.std.specs.Prelude.{⊤}
 use Rattle.std.specs.FinMap.Entries.{find}
 use Rattle.std.specs.Ordering.{nat_cmp, is_eq}
 use Rattle.std.proofs.lemmas.Map.Lookups.{exact_unsigned}
 use Rattle.value_model.specs.declared.kind.Kind.{Kind}
-use Rattle.numbered.specs.Tree as tree
 use Rattle.numbered.specs.Tree.{Tree, Branches, number}
 use Rattle.run_heap.specs.Heap.{Heap}
 use Rattle.result_trees.specs.Final.{Final, Finals, prim, frozen, object, none, entry}

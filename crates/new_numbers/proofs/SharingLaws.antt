@@ -1,5 +1,5 @@
 -- What keeps its number is not numbered anew, and nothing in it is.
-use Rattle.std.proofs.Common.{◌≡◌, ℕ, List, refl, ap, sym, ◌∙◌, subst, Bool, false, Option, Some, None}
+use Rattle.std.proofs.Common.{◌≡◌, ℕ, List, ap, sym, ◌∙◌, Bool, false, Option, Some}
 use Rattle.value_model.specs.declared.kind.Kind.{Kind}
 use Rattle.numbered.proofs.Laws.{number_at}
 use Rattle.numbered.specs.Store.{tree_at}

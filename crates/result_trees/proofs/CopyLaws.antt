@@ -1,11 +1,11 @@
 -- Objects that were opened on a state stay so until they are written, whatever else is done.
-use Rattle.std.proofs.Common.{◌≡◌, ◌≢◌, ℕ, zero, suc, ◌+◌, ◌-◌, ◌<◌, ◌≤◌, List, [], ◌∷◌, refl, ap, sym, ◌∙◌, subst, arith, Bool, true, false, not, Option, Some, None}
+use Rattle.std.proofs.Common.{◌≡◌, ℕ, zero, suc, ◌+◌, ◌-◌, List, [], ◌∷◌, refl, ap, sym, ◌∙◌, subst, arith, Bool, true, false, not, Option, Some, None}
 use Rattle.std.specs.Prelude.{nat_lt, ◌==◌, ◌||◌, if◌then◌else◌, slice_get}
 use Rattle.std.proofs.lemmas.Bool.{not-false}
 use Rattle.numbered.specs.Store.{tree_at}
-use Rattle.numbered.specs.Tree.{Tree, containers, place}
+use Rattle.numbered.specs.Tree.{Tree, place}
 use Rattle.run_heap.specs.declared.content.Content.{Content}
-use Rattle.run_heap.specs.Heap.{Heap, drafts, copied, opened, rewritten, update, with_objects}
+use Rattle.run_heap.specs.Heap.{Heap, copied, opened, rewritten, update, with_objects}
 use Rattle.run_heap.specs.Laws.{left_false, right_false}
 use Rattle.run_heap.proofs.Laws.{no_place, same_tables_exact}
 use Rattle.run_heap.specs.Operations.{Rows, source_in}
@@ -45,7 +45,7 @@ pub written_copies : (h : Heap) (n : ℕ) (t : Rows) (c : Content) → CopiesSta
 written_copies h n t c copies o m id l e =
     let before : source_in (h.object m) ≡ Some id = at_names (λ (x y : Option Content). source_in y ≡ Some id → source_in x ≡ Some id) h n m t c o (λ q. q) (λ q. q) e in
     λ q below. at_names (λ (x y : Option Content). IsOpenedAs x (copied h.scope (m + q) (place q (tree_at h.states id))) → IsOpenedAs y (copied h.scope (m + q) (place q (tree_at h.states id)))) h n (m + q) t c o
-        (λ a. kept_mark t c (copied h.scope (m + q) (place q (tree_at h.states id))) a) (λ a. a) (copies m id l before q below)
+    (λ a. kept_mark t c (copied h.scope (m + q) (place q (tree_at h.states id))) a) (λ a. a) (copies m id l before q below)
 
 -- ---- new objects
 there : (c b : Option Content) → IsOpenedAs c b → c ≡ None → ⊥

@@ -14,7 +14,7 @@ use Rattle.numbered.specs.Tree.{Tree, Branches, plain, plains, containers, conta
 use Rattle.run_heap.specs.declared.value.Rv.TheVariants.{Prim, Obj, Frozen}
 use Rattle.run_heap.specs.declared.value.Given.TheVariants as given
 use Rattle.run_heap.specs.declared.content.Content.{Content}
-use Rattle.run_heap.specs.Heap.{Heap, drafts, copied, given_content, given_table, given_value}
+use Rattle.run_heap.specs.Heap.{Heap, drafts, copied, given_table, given_value}
 use Rattle.run_heap.proofs.Laws.{place_within}
 use Rattle.run_heap.specs.Operations.{is_marked, source_in}
 use Rattle.run_heap.specs.Sound.{IsSound, IsOpenedAs, HasSource}

@@ -1,7 +1,6 @@
 -- What a value is read as, by levels: the laws of readings for it.
-use Rattle.std.proofs.Common.{◌≡◌, ℕ, ◌≤◌, refl, ap, sym, ◌∙◌, subst, false, Some, None}
+use Rattle.std.proofs.Common.{◌≡◌, ℕ, ◌≤◌, ap, sym, ◌∙◌, subst, false, Some, None}
 use Rattle.std.specs.Prelude.{◌^◌}
-use Rattle.value_model.specs.declared.kind.Kind.{Kind}
 use Rattle.value_model.specs.Limits.{value_limit}
 use Rattle.value_model.specs.Plain.{depth, weight}
 use Rattle.numbered.specs.Store.{tree_at}
@@ -11,7 +10,7 @@ use Rattle.run_heap.specs.declared.value.Rv.TheVariants.{Prim, Obj, Frozen}
 use Rattle.run_heap.specs.Heap.{Heap}
 use Rattle.run_heap.specs.Operations.{source_in}
 use Rattle.run_heap.specs.Sound.{IsSound, IsStored}
-use Rattle.result_trees.specs.Final.{Final, Finals, prim, frozen, object, plain_of, read_value, final, returned}
+use Rattle.result_trees.specs.Final.{Final, prim, frozen, object, plain_of, read_value, final, returned}
 use Rattle.result_trees.specs.Written.{is_written, CopiesStand}
 use Rattle.result_trees.proofs.KeptLaws.{kept_shown}
 use Rattle.result_trees.proofs.OrderLaws.{accepted}

@@ -2,9 +2,8 @@
 -- containers, is that of a written object.
 use Rattle.std.proofs.Common.{◌≡◌, ℕ, zero, suc, ◌+◌, refl, ap, sym, ◌∙◌, subst, arith, Bool, true, false, Option, Some}
 use Rattle.std.specs.Prelude.{◌||◌}
-use Rattle.value_model.specs.declared.key.Key.{Key}
 use Rattle.value_model.specs.declared.kind.Kind.{Kind}
-use Rattle.numbered.specs.Store.{IsNumber, tree_at}
+use Rattle.numbered.specs.Store.{tree_at}
 use Rattle.numbered.specs.Tree as tree
 use Rattle.numbered.specs.Tree.{Tree, Branches, containers, containers_in}
 use Rattle.run_heap.specs.declared.value.Rv.TheVariants.{Prim, Obj, Frozen}

@@ -1,6 +1,6 @@
 -- Worked rows. Scope 7 is begun at the state {"a":{"x":0},"b":{"x":0}}, whose container a is 1, b is 2, and the root 3; its
 -- drafts are 0 (the root), 1 (a) and 2 (b).
-use Rattle.std.specs.Prelude.{◌≡◌, ℕ, zero, suc, ◌+◌, ◌*◌, ◌^◌, max, pos, List, [], ◌∷◌, codes, refl, Option, Some, None, true, false, Result, Ok, Err, option_map}
+use Rattle.std.specs.Prelude.{◌≡◌, ℕ, zero, suc, ◌+◌, ◌*◌, ◌^◌, max, pos, [], ◌∷◌, codes, refl, Option, Some, None, true, false, Result, Ok, Err, option_map}
 use Rattle.std.proofs.Common.{ap, ◌∙◌, arith}
 use Rattle.value_model.specs.declared.key.Key.{Key}
 use Rattle.value_model.specs.declared.key.Key.TheVariants.{Null, Int, Text}
@@ -14,7 +14,7 @@ use Rattle.run_heap.specs.declared.fault.DraftFault.{DraftFault}
 use Rattle.run_heap.specs.declared.content.Content.{Content}
 use Rattle.run_heap.specs.Heap.{Heap, opened, fresh}
 use Rattle.run_heap.specs.Operations.{put_at}
-use Rattle.result_trees.specs.Final.{Final, Finals, prim, frozen, object, none, entry, plain_of, with_entry, read_object, read_value, final}
+use Rattle.result_trees.specs.Final.{Final, prim, frozen, object, none, entry, plain_of, with_entry, read_object, read_value, final}
 use Rattle.result_trees.specs.Written.{is_written, kept, any_marked}
 
 abbrev a : Key
