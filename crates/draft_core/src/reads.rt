@@ -174,6 +174,26 @@ impl Scope {
         }
     }
 
+    /// The value of an entry, as `get` gives it, by a scope that is only read.
+    pub fn value_at(
+        &self,
+        alloc: Global,
+        store: &Store,
+        of: &Rv,
+        i: usize,
+    ) -> Result<Rv, AllocError>
+        requires stands { Stands (states store.now) self.now }
+        requires container { IsContainer (heap (states store.now) self.now) of.now }
+        requires in_range { i < spec.count (heap (states store.now) self.now) of.now }
+        ensures value { IfOk result (λ v. spec.entry_at (heap (states store.now) self.now) of.now i ≡ Some v) }
+        ensures stored { IfOk result (λ v. IsStored (heap (states store.now) self.now) v) }
+    {
+        match self.look(store, of) {
+            Some(look) => look.value(alloc, store, i),
+            None => unreachable!(),
+        }
+    }
+
     /// The value of an entry as it is kept: `Read` where the container has a table of its own, else `Untouched`, the cell at that
     /// index of the node that it was opened on. It takes no memory.
     pub fn peek<'a>(&'a self, store: &'a Store, of: &Rv, i: usize) -> Peek<'a>
