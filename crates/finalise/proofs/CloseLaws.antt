@@ -112,7 +112,6 @@ next_back us (node id of es) h =
     let rest = branches_back us of es h.children fit in
     λ i. node (h.number i) of (sym rest i)
 
-
 -- ---- keys that are copied in turn
 drop_at : (all : List Key) (i : ℕ) (k : Key) → slice_get all i ≡ Some k → drop i all ≡ k ∷ drop (i + 1) all
 drop_at [] i k h = absurd (cc)

@@ -107,7 +107,12 @@ module _ (ts us : List Tree) (s : Scope) (end : Tree × Given) (opens : List Ope
           subst (λ (m : ℕ). resume ts (heap us s) a.stack (tree.node m a.kind es, record { news = a.given.news ++ tree.node m a.kind es ∷ []; done = (c.object.slot, tree.node m a.kind es) ∷ a.given.done }) ≡ end) number
           (subst (λ (n : ℕ). resume ts (heap us s) a.stack (tree.node id a.kind es, record { news = a.given.news ++ tree.node id a.kind es ∷ []; done = (n, tree.node id a.kind es) ∷ a.given.done }) ≡ end) (sym o.name) w) in
           record {
-            stack = a.stack; kind_is = a.kind; before = a.before; given = a.given; kept = a.kept; are_open = a.are_open;
+            stack = a.stack;
+            kind_is = a.kind;
+            before = a.before;
+            given = a.given;
+            kept = a.kept;
+            are_open = a.are_open;
             is_open = record { object = o.object; name = refl; cells = o.cells; content = subst (λ (m : ℕ). IfContent ((heap us s).object m) (λ d. (d.kind ≡ a.kind) × Splits (heap us s) a.before none d.table)) (sym o.name) o.content };
             next = subst (λ (m : ℕ). IsNext us (tree.node m a.kind es)) number next;
             whole = whole;

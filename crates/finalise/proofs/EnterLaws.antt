@@ -114,7 +114,12 @@ module _ (ts us : List Tree) (s : Scope) (end : Tree × Given) (opens : List Ope
           let e : Some (cell.Node id) ≡ Some (cell_of t) = found ∙ ap (option_map cell_of) p in
           let q : cell.Node id ≡ cell_of t = cc in
           record {
-            stack = a.stack; state = t; given = a.given; kept = a.kept; are_open = a.are_open; cell = q;
+            stack = a.stack;
+            state = t;
+            given = a.given;
+            kept = a.kept;
+            are_open = a.are_open;
+            cell = q;
             whole = ap (λ (x : Option Tree). resume ts (heap us s) a.stack (renumbered ts r.slot o.kind (numbered_in ts (heap us s) o.entries) a.given x)) (sym p) ∙ at_object r a o None (law o.kind o.entries o.shows);
           }
 
@@ -123,7 +128,14 @@ module _ (ts us : List Tree) (s : Scope) (end : Tree × Given) (opens : List Ope
       let o = object_read (heap us s) r a.now a.reads in
       let p : find nat_cmp r.slot a.given.done ≡ None = found_none (find nat_cmp r.slot a.given.done) (ap (option_map cell.Node) (sym d) ∙ a.kept.noted r.slot) in
       record {
-        stack = a.stack; name = r.slot; kind = o.kind; before = []; rest = o.entries; given = a.given; kept = a.kept; are_open = a.are_open;
+        stack = a.stack;
+        name = r.slot;
+        kind = o.kind;
+        before = [];
+        rest = o.entries;
+        given = a.given;
+        kept = a.kept;
+        are_open = a.are_open;
         is_open = record { object = subst (λ (x : ObjRef). (x.scope ≡ (heap us s).scope) × (x.slot < (heap us s).next)) (sym same) a.stored; name = ap (λ (x : ObjRef). x.slot) same; cells = empty; content = o.shows };
         whole = ap (λ (x : Option Tree). resume ts (heap us s) a.stack (renumbered ts r.slot o.kind (numbered_in ts (heap us s) o.entries) a.given x)) (sym p) ∙ at_object r a o None (law o.kind o.entries o.shows);
       }

@@ -94,8 +94,8 @@ module _ (ts us : List Tree) (s : Scope) (end : Tree × Given) (opens : List Ope
           content = split_content (heap us s) ((heap us s).object o.name) o.kind o.before before (entry o.key o.now o.rest) o.rest i.content (λ rows. splits_next (heap us s) o.before o.key o.now o.rest a.state rows);
         };
         whole =
-          ap (λ (es : Branches). resume ts (heap us s) l.others (Rattle.new_numbers.specs.Numbering.add ts o.name o.kind (es, g.1))) (sym (joined_next o.before o.key a.state g.0))
-          ∙ sym (resume_last ts (heap us s) l.others o (a.state, a.given))
-          ∙ ap (λ (os : List Open). resume ts (heap us s) os (a.state, a.given)) (sym l.whole)
-          ∙ a.whole;
+            ap (λ (es : Branches). resume ts (heap us s) l.others (Rattle.new_numbers.specs.Numbering.add ts o.name o.kind (es, g.1))) (sym (joined_next o.before o.key a.state g.0))
+            ∙ sym (resume_last ts (heap us s) l.others o (a.state, a.given))
+            ∙ ap (λ (os : List Open). resume ts (heap us s) os (a.state, a.given)) (sym l.whole)
+            ∙ a.whole;
       }

@@ -1,5 +1,6 @@
 use Rattle.node_store.specs.Paged.{states}
-use Rattle.std.proofs.Common.{◌≡◌, ap, sym, subst, List, [], ℕ, true}
+use Rattle.std.proofs.Common.{◌≡◌, ap, sym, subst, refl, List, [], ℕ, true}
+use Rattle.std.specs.Prelude.{Err}
 use Rattle.std.specs.BTreeMap.{get, is_at}
 use Rattle.std.specs.Map.{lookup}
 use Rattle.std.specs.Ordering.{nat_cmp}
@@ -12,6 +13,7 @@ use Rattle.result_trees.proofs.Readings.{same_reading}
 use Rattle.new_numbers.specs.Numbering.{new_states}
 use Rattle.finalise.specs.declared.walk.Step.{Step}
 use Rattle.finalise.specs.Walk.{AtValue, Goes}
+use Rattle.finalise.proofs.AddedLaws.{same_fault}
 use Rattle.finalise.proofs.WholeLaws.{at_first, begun_at, last_number, ended}
 use Rattle.finalise.proofs.number.number_value.Goals as goal
 
@@ -35,7 +37,7 @@ returns-in-Err-clause-full c = λ q f r.
     let h = heap ts c.args.scope.now in
     let i = c.loop.invariant in
     subst (λ (x : Final). any_full ts (new_states ts h x) ≡ true) (same_reading h i.0.tree f c.args.v i.0.reads r)
-    (c.in-Err.ensures.full q ts (numbered ts h i.0.tree nothing) i.1)
+    (c.turn.ensures.full (same_fault c.turn.result c.in-Err.fault (Err c.in-Err.fault) c.in-Err.is refl q) ts (numbered ts h i.0.tree nothing) i.1)
 
 pub number_of-requires : goal.number_of-requires
 number_of-requires c =
