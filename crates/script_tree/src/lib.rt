@@ -134,12 +134,7 @@ pub enum Stmt {
     /// A `switch` without `default`: its operand, and the cases, each with its statements.
     Switch(Expr, Items<(Expr, Items<Stmt>)>),
     /// A `switch` with `default`: its operand, the cases before `default`, its statements, and the cases behind it.
-    SwitchElse(
-        Expr,
-        Items<(Expr, Items<Stmt>)>,
-        Items<Stmt>,
-        Items<(Expr, Items<Stmt>)>,
-    ),
+    SwitchElse(Expr, Items<(Expr, Items<Stmt>)>, Items<Stmt>, Items<(Expr, Items<Stmt>)>),
     /// `break`
     Break,
     /// `continue`
