@@ -2,12 +2,6 @@ pub mod Good
 pub mod Tests
 pub mod Lists
 pub mod Languages
-pub mod Expressions
-pub mod Statements
 pub mod Takes
 pub mod Follow
-pub mod Accept
-pub mod AcceptStatements
-pub mod Exact
 pub mod Mono
-pub mod Unique
