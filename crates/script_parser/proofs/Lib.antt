@@ -5,3 +5,7 @@ pub mod Languages
 pub mod Takes
 pub mod Follow
 pub mod Mono
+pub mod Basics
+pub mod Calls
+pub mod Expressions
+pub mod From
