@@ -9,3 +9,4 @@ pub mod Basics
 pub mod Calls
 pub mod Expressions
 pub mod From
+pub mod Statements
