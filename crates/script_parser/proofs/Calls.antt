@@ -14,11 +14,11 @@ use Rattle.script_grammar.specs.Tokens.{Tok, Name, Kept, Fixed, Toks}
 use Rattle.script_grammar.specs.Trees.{Word, Named, Reserve, Ex, Literal, Var, Round, ListOf, Object, New, Apply, FromKeys, Member, Unary, Chain, Choice, Elem, Element, Spread, Elems, NoElems, LastElem, ThenElem, Prop, Keyed, Quoted, Short, Merge, Props, NoProps, LastProp, ThenProp, Suffix, Dot, Index, Call, Suffixes, NoSuffixes, ThenSuffix, Args, NoArgs, FirstArg, More, NoMore, ThenMore, Links, NoLinks, ThenLink}
 use Rattle.script_grammar.specs.Spelling.{spell_word, spell_container, spell_builtin, keys_word, spell_ex, spell_elem, spell_elems, spell_prop, spell_props, spell_suffix, spell_suffixes, spell_args, spell_more, spell_links}
 use Rattle.script_grammar.specs.Rules.{level_of, is_atom, method_at, fits, Binds, BindsElem, BindsElems, BindsProp, BindsProps, BindsSuffix, BindsSuffixes, BindsArgs, BindsMore, BindsLinks, within, within_elem, within_elems, within_prop, within_props, within_suffix, within_suffixes, within_args, within_more, within_links}
-use Rattle.script_parser.specs.Steps.{◌>>=◌, pure, take, look}
+use Rattle.script_parser.specs.Steps.{◌>>=◌, pure, take, look, many_by}
 use Rattle.script_parser.specs.Tests.{fixed, word_of, container_of, is, sees}
 use Rattle.script_parser.specs.Parser.{Below, expect, creation, created, applied, from_in, further, more, second, second_by, two_by, args, calling, method_by, dot_by, dot}
 use Rattle.script_parser.proofs.Good.{Lang, Example, Good, Seq, Nothing, good_pure, good_look, good_sub, good_bind}
-use Rattle.script_parser.proofs.Lists.{good_many}
+use Rattle.script_parser.proofs.Lists.{good_many, many_is}
 use Rattle.script_parser.proofs.Languages.{Just, WordAt, ContainerAt, FromAt, good_sign, good_key, good_container, Of, ExAt, Goods, GoodBelow, good_opened, deep_sign}
 use Rattle.script_parser.proofs.Basics.{MoreAt, SuffixAt, AfterAt, nothing}
 
@@ -161,3 +161,7 @@ good_dot d i g = good_sub _ (SuffixAt d) _ spelled
   where
     spelled : (n : ℕ) (s : Suffix) (ts : Toks) → Seq (Just Point) (λ _. Seq WordAt (λ w. DotAt w d)) n s ts → SuffixAt d n s ts
     spelled n s ts h = let i = h.4 in (rw (h.5, h.3, i.5, i.3) i.4.0, i.4.1, i.4.2 n (rw (h.3, i.3) refl))
+
+-- the further arguments without their bound
+pub more_is : (d : ℕ) (b : Below) → Goods d b → (ts : Toks) → more b ts ≡ look (many_by (is Comma) (further b) NoMore ThenMore (more b)) ts
+more_is d b g ts = many_is (FurtherAt d) (is Comma) (further b) NoMore ThenMore (good_further d b g) (λ n a x h. rw h.0 omega arith) ts

@@ -10,3 +10,5 @@ pub mod Calls
 pub mod Expressions
 pub mod From
 pub mod Statements
+pub mod Splits
+pub mod Accept
