@@ -121,7 +121,11 @@ pub throw_is : (d : ℕ) (ts : Toks) → NotUnexpected (expr (below d) ts) → l
 throw_is d ts n = by (sees_word kept.New (first ts)) refl
   where
     behind : (x : Toks) (c : Bool) → sees_word kept.Error (first x) ≡ c → NotUnexpected (expr (below d) (Kept kept.New ∷ x)) → thrown_new (below d) c x ≡ and_then (expr (below d) (Kept kept.New ∷ x)) (λ e. ended (Throw e))
-    behind x true h n = let s = seen_word kept.Error x h in absurd (subst NotUnexpected (expr_new d x ∙ rw (s.1, no_created d s.0) refl) n)
+    behind x true h n =
+        let s = seen_word kept.Error x h in
+        let none : created (below d) x ≡ Err (Unexpected, x) = rw s.1 (no_created d s.0) in
+        let whole : expr (below d) (Kept kept.New ∷ x) ≡ Err (Unexpected, x) = expr_new d x ∙ ap (λ (out : Outcome Ex). and_then out (λ a. expr_after (below d) a)) none in
+        absurd (subst NotUnexpected whole n)
     behind x false h n = sym (and_then_assoc (created (below d) x) (λ a. expr_after (below d) a) (λ e. ended (Throw e))) ∙ ap (λ (out : Outcome Ex). and_then out (λ e. ended (Throw e))) (sym (expr_new d x))
 
     by : (b : Bool) → sees_word kept.New (first ts) ≡ b → throw_by (below d) b ts ≡ and_then (expr (below d) ts) (λ e. ended (Throw e))
