@@ -87,7 +87,6 @@ by_prop d b g QuotedForm = good_sub _ (PropAt d) _ spelled
   where
     spelled : (n : ℕ) (p : Prop) (ts : Toks) → Seq TextAt (λ t. Seq (Just Colon) (λ _. Seq (ExAt 8 d) (λ e. Nothing (Quoted t e)))) n p ts → PropAt d n p ts
     spelled n p ts h = let i = h.4 in let j = i.4 in let k = rw (h.3, i.3) at j.3.2 in rw (h.5, h.3, i.5, i.3, j.5, j.3.0, j.4.1, j.4.0, append-nil) (refl, j.3.1, k)
-
 by_prop d b g MergeForm = good_sub _ (PropAt d) _ merged (good_bind (Just Ellipsis) _ (expect Ellipsis) _ (good_sign Ellipsis) (λ _. good_bind (ExAt 8 d) _ b.expr _ g.expr (λ e. good_pure (Merge e))))
   where
     merged : (n : ℕ) (p : Prop) (ts : Toks) → Seq (Just Ellipsis) (λ _. Seq (ExAt 8 d) (λ e. Nothing (Merge e))) n p ts → PropAt d n p ts

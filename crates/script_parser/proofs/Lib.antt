@@ -12,3 +12,6 @@ pub mod From
 pub mod Statements
 pub mod Splits
 pub mod Accept
+pub mod AcceptStatements
+pub mod Unique
+pub mod Exact

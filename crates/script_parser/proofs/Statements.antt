@@ -292,10 +292,11 @@ by_new w d i g false = good_sub _ (NewError w d) _ spelled
     spelled : (n : ℕ) (s : Stmt) (ts : Toks) → Seq (AfterAt (Kept kept.New ∷ []) d) (λ a. Seq (AtomOnto a d) (λ e. Ends (Throw e))) n s ts → NewError w d n s ts
     spelled n s ts h = let j = h.4 in
         let atom : Kept kept.New ∷ h.1 ≡ spell_ex h.0 = h.3.0 in
-        let whole : Kept kept.New ∷ (h.1 ++ j.1) ≡ spell_ex j.0 = ap (λ (v : Toks). v ++ j.1) atom ∙ j.3.0 in
-        (rw (h.5, j.5, j.4.1, j.4.0) (ap (λ (v : Toks). Kept kept.Throw ∷ v) (ap (λ (v : Toks). Kept kept.New ∷ v) (Rattle.std.proofs.Common.sym (append_assoc h.1 j.1 (Fixed Semicolon ∷ []))) ∙ ap (λ (v : Toks). v ++ Fixed Semicolon ∷ []) whole)),
-         rw j.4.0 (refl, j.3.1 h.3.1 h.3.2),
-         λ m e. rw j.4.0 (j.3.2 (m - 1) (new_size m n h.1 (spell_ex h.0) atom e) (h.3.3 (m - 1) e)))
+        let whole : Kept kept.New ∷ (h.1 ++ j.1) ≡ spell_ex j.0 = ap (λ (v : Toks). v ++ j.1) atom ∙ j.3.0 in (
+          rw (h.5, j.5, j.4.1, j.4.0) (ap (λ (v : Toks). Kept kept.Throw ∷ v) (ap (λ (v : Toks). Kept kept.New ∷ v) (Rattle.std.proofs.Common.sym (append_assoc h.1 j.1 (Fixed Semicolon ∷ []))) ∙ ap (λ (v : Toks). v ++ Fixed Semicolon ∷ []) whole)),
+          rw j.4.0 (refl, j.3.1 h.3.1 h.3.2),
+          λ m e. rw j.4.0 (j.3.2 (m - 1) (new_size m n h.1 (spell_ex h.0) atom e) (h.3.3 (m - 1) e)),
+        )
       where
         new_size : (m n : ℕ) (x y : Toks) → Kept kept.New ∷ x ≡ y → m - 1 - 1 ≡ n → m - 1 - length y ≡ n - length x
         new_size m n x y q e = omega (arith, e, ap (λ (w : Toks). length w) q)
@@ -392,10 +393,11 @@ assigned : (w : Around) (d : ℕ) (i : Option Below) → GoodBelow d i → (e : 
 assigned w d i g e t p = good_sub _ (AssignAt w d e) _ spelled (good_bind AssignSign _ (take assign_of) _ good_assign_sign (λ o. good_bind (ExAt 8 d) _ (expr i) _ (good_expr d i g) (λ v. good_ended (assignment t o v))))
   where
     spelled : (n : ℕ) (s : Stmt) (ts : Toks) → Seq AssignSign (λ o. Seq (ExAt 8 d) (λ v. Ends (assignment t o v))) n s ts → AssignAt w d e n s ts
-    spelled n s ts h = let j = h.4 in let u = rw h.3 at j.3.2 in
-        (rw (h.5, h.3, j.5, j.3.0, j.4.1, j.4.0, spell_assignment t h.0 j.0, p.spelled) refl,
-         λ b o. rw j.4.0 (right_assignment w t h.0 j.0 (p.right b) (rw p.spelled at o) j.3.1),
-         λ m q f. rw (j.4.0, within_assignment t h.0 j.0 d m) (and_from _ _ (p.levels d m f) (rw (← p.spelled, q) u)))
+    spelled n s ts h = let j = h.4 in let u = rw h.3 at j.3.2 in (
+      rw (h.5, h.3, j.5, j.3.0, j.4.1, j.4.0, spell_assignment t h.0 j.0, p.spelled) refl,
+      λ b o. rw j.4.0 (right_assignment w t h.0 j.0 (p.right b) (rw p.spelled at o) j.3.1),
+      λ m q f. rw (j.4.0, within_assignment t h.0 j.0 d m) (and_from _ _ (p.levels d m f) (rw (← p.spelled, q) u)),
+    )
 
 good_assign : (w : Around) (d : ℕ) (i : Option Below) → GoodBelow d i → (e : Ex) (c : Bool) → Good (AssignAt w d e) (assign_by i e (assigned_by e c))
 good_assign w d i g e false = done w d e
