@@ -4,8 +4,8 @@ ghost use Rattle.std.specs.Prelude.{◌≡◌, [], IfOk, IfErr};
 ghost use Rattle.script_text.specs.Texts.{text_in};
 ghost use Rattle.script_text.specs.declared.token.Inside.TheVariants.{Plain};
 ghost use Rattle.script_grammar.specs.Tokens.{text_value as spec_text_value};
-ghost use Rattle.js_expr.specs.Values.{joined, usable_bytes};
-ghost use Rattle.js_expr.specs.declared.source.Stop.TheVariants as stop;
+ghost use Rattle.js_source.specs.Values.{joined, usable_bytes};
+ghost use Rattle.js_source.specs.declared.source.Stop.TheVariants as stop;
 
 use crate::source::Stop;
 use script_text::{Inside, TextStep, text_step};
@@ -59,7 +59,7 @@ fn unquoted(alloc: Global, quote: u8, bytes: &[u8]) -> Result<Option<Items<u8>>,
 }
 
 /// The text of these bytes, where they are UTF-8 and within the limit.
-fn usable(alloc: Global, bytes: &[u8]) -> Result<Option<Text>, Stop>
+pub(crate) fn usable(alloc: Global, bytes: &[u8]) -> Result<Option<Text>, Stop>
     ensures value { IfOk result (λ o. o ≡ usable_bytes bytes.now) }
     ensures memory { IfErr result (λ f. f ≡ stop.Memory) }
 {

@@ -2,20 +2,20 @@
 
 ghost use Rattle.std.specs.Prelude.{◌≡◌, ◌+◌, ◌<◌, ◌^◌, ◌≤◌, Some, None, MatchOption, drop, length, MatchResult, Ok, IfOk, IfErr, IfSome, IsTrue};
 ghost use Rattle.script_grammar.specs.Tokens.{bytes_of};
-ghost use Rattle.js_expr.specs.declared.source.Stop.TheVariants as stop;
-ghost use Rattle.js_expr.specs.Next.{next_kind, first_bytes, reserved_kind, made, linked, signed, text_next, literals, lit_ex, small};
+ghost use Rattle.js_source.specs.declared.source.Stop.TheVariants as stop;
+ghost use Rattle.js_source.specs.Next.{next_kind, first_bytes, reserved_kind, made, linked, signed, text_next, literals, lit_ex, small, suffix_next, container_next, declaring_next, assign_next, called_next};
 ghost use Rattle.script_parser.specs.Steps.{first, take};
-ghost use Rattle.script_parser.specs.Tests.{fixed, kept_as, name_of, word_of, lit_of, is_some, sees, sees_word};
+ghost use Rattle.script_parser.specs.Tests.{fixed, kept_as, name_of, word_of, lit_of, is_some, sees, sees_word, container_of, declaring_of, assign_of, called};
 ghost use Rattle.script_grammar.specs.Rules.{is_unary, level_of};
 ghost use Rattle.script_grammar.specs.Sources.{toks};
-ghost use Rattle.js_expr.specs.Reading.{Fails, Reads};
-ghost use Rattle.script_tree.specs.View.{name_pair, word_of as word_view, view, nat_of};
-ghost use Rattle.script_grammar.specs.Tokens.{Kept};
-ghost use Rattle.js_expr.specs.Lists.{suffix_next, Forward};
+ghost use Rattle.js_source.specs.Reading.{Fails, Reads, Forward};
+ghost use Rattle.script_tree.specs.View.{name_pair, key_pair, word_of as word_view, view, nat_of};
+ghost use Rattle.script_grammar.specs.Tokens.{Kept, Fixed};
 
-use crate::text::text_value;
+use crate::text::{text_value, usable};
+use script_grammar::{Compound, Container};
 use script_text::{Kind, Reserved, Sign, Token};
-use script_tree::{Expr, Label, Name};
+use script_tree::{Expr, Name, NameKey, Word};
 use sqlite_items::Items;
 use std::alloc::{AllocError, AllocFailed, Global};
 use thiserror::Error;
@@ -36,7 +36,7 @@ pub enum Stop {
 
 impl From<AllocError> for Stop {
     ghost use Rattle.std.specs.Prelude.{◌≡◌};
-    ghost use Rattle.js_expr.specs.declared.source.Stop.TheVariants.{Memory};
+    ghost use Rattle.js_source.specs.declared.source.Stop.TheVariants.{Memory};
 
     ghost from_gives = { λ _ e. e ≡ Memory };
 
@@ -47,7 +47,7 @@ impl From<AllocError> for Stop {
 
 impl<T: Drop> From<AllocFailed<T>> for Stop {
     ghost use Rattle.std.specs.Prelude.{◌≡◌};
-    ghost use Rattle.js_expr.specs.declared.source.Stop.TheVariants.{Memory};
+    ghost use Rattle.js_source.specs.declared.source.Stop.TheVariants.{Memory};
 
     ghost from_gives = { λ _ e. e ≡ Memory };
 
@@ -66,7 +66,7 @@ pub struct Source<'a> {
 
 impl Source<'_> {
     /// What the token of this number is.
-    pub(crate) fn kind(&self, at: usize) -> Option<Kind>
+    pub fn kind(&self, at: usize) -> Option<Kind>
         ensures is { result ≡ next_kind (drop at self.now.tokens.now) }
         ensures within { IfSome result (λ _. at < length self.now.tokens.now) }
         ensures next { IfSome result (λ _. at + 1 < 2 ^ 64) }
@@ -143,7 +143,7 @@ impl Source<'_> {
 
     /// Whether a name comes next.
     #[tactic(auto, using(crate::proofs::Seen::name_is))]
-    pub(crate) fn is_name(&self, at: usize) -> bool
+    pub fn is_name(&self, at: usize) -> bool
         ensures is { result ≡ is_some (made name_of (first (toks self.now.bytes.now self.now.tokens.now at))) }
         ensures within { IsTrue result → at < length self.now.tokens.now }
         ensures next { IsTrue result → at + 1 < 2 ^ 64 }
@@ -166,7 +166,7 @@ impl Source<'_> {
     }
 
     /// The word that is no name that comes next.
-    pub(crate) fn reserved(&self, at: usize) -> Option<Reserved>
+    pub fn reserved(&self, at: usize) -> Option<Reserved>
         ensures is { result ≡ reserved_kind (next_kind (drop at self.now.tokens.now)) }
         ensures within { IfSome result (λ _. at < length self.now.tokens.now) }
         ensures next { IfSome result (λ _. at + 1 < 2 ^ 64) }
@@ -193,7 +193,7 @@ impl Source<'_> {
 
     /// The sign before an operand that comes next.
     #[tactic(auto, using(crate::proofs::Seen::unary_is))]
-    pub(crate) fn unary_sign(&self, at: usize) -> Option<Sign>
+    pub fn unary_sign(&self, at: usize) -> Option<Sign>
         ensures is { result ≡ signed (toks self.now.bytes.now self.now.tokens.now at) }
         ensures within { IfSome result (λ _. at < length self.now.tokens.now) }
         ensures next { IfSome result (λ _. at + 1 < 2 ^ 64) }
@@ -206,7 +206,7 @@ impl Source<'_> {
 
     /// The operator of this level that comes next.
     #[tactic(auto, using(crate::proofs::Seen::link_is))]
-    pub(crate) fn link_sign(&self, at: usize, level: usize) -> Option<Sign>
+    pub fn link_sign(&self, at: usize, level: usize) -> Option<Sign>
         ensures is { result ≡ linked level (toks self.now.bytes.now self.now.tokens.now at) }
         ensures within { IfSome result (λ _. at < length self.now.tokens.now) }
         ensures next { IfSome result (λ _. at + 1 < 2 ^ 64) }
@@ -225,7 +225,7 @@ impl Source<'_> {
 
     /// Whether a member or an index comes next.
     #[tactic(auto, using(crate::proofs::Seen::suffix_is))]
-    pub(crate) fn begins_suffix(&self, at: usize) -> bool
+    pub fn begins_suffix(&self, at: usize) -> bool
         ensures is { result ≡ suffix_next (first (toks self.now.bytes.now self.now.tokens.now at)) }
         ensures within { IsTrue result → at < length self.now.tokens.now }
         ensures next { IsTrue result → at + 1 < 2 ^ 64 }
@@ -233,24 +233,105 @@ impl Source<'_> {
         self.sees(at, Sign::Dot) || self.sees(at, Sign::OpenSquare)
     }
 
-    /// A word in the place of a key.
+    /// The name that this token is, as a key.
+    #[tactic(auto, using(crate::proofs::Seen::first_bytes_is, crate::proofs::Words::usable_same))]
+    fn made_key(&self, alloc: Global, at: usize) -> Result<NameKey, Stop>
+        requires { at < length self.now.tokens.now }
+        ensures key { IfOk result (λ n. key_pair n ≡ (at, first_bytes self.now.bytes.now (drop at self.now.tokens.now))) }
+        ensures memory { IfErr result (λ f. f ≡ stop.Memory) }
+    {
+        match usable(alloc, self.spelling(&self.tokens[at]))? {
+            Some(text) => Ok(NameKey::Text(at, text)),
+            None => Ok(NameKey::Long(self.made_name(alloc, at)?)),
+        }
+    }
+
+    /// The name at a place as a key, and the place behind it; `Unexpected` where no name comes next. `Memory` may be
+    /// answered in place of the name.
+    #[tactic(auto, using(crate::proofs::Seen::name_here, crate::proofs::Seen::name_not_read))]
+    pub fn name_key(&self, alloc: Global, at: usize) -> Result<(NameKey, usize), Stop>
+        ensures is { Reads key_pair (take name_of) self.now.bytes.now self.now.tokens.now at result }
+        ensures forward { Forward at result }
+    {
+        if self.is_name(at) {
+            Ok((self.made_key(alloc, at)?, at + 1))
+        } else {
+            Err(Stop::Unexpected(at))
+        }
+    }
+
+    /// The word at a place, and the place behind it; `Unexpected` where no word comes next. `Memory` may be answered
+    /// in place of the word.
     #[tactic(auto, using(crate::proofs::Seen::key_here, crate::proofs::Seen::key_reserved, crate::proofs::Seen::key_none))]
-    pub(crate) fn label(&self, alloc: Global, at: usize) -> Result<(Label, usize), Stop>
+    pub fn word(&self, alloc: Global, at: usize) -> Result<(Word, usize), Stop>
         ensures is { Reads word_view (take word_of) self.now.bytes.now self.now.tokens.now at result }
         ensures forward { Forward at result }
     {
         if self.is_name(at) {
-            return Ok((Label::Name(self.made_name(alloc, at)?), at + 1));
+            return Ok((Word::Name(self.made_key(alloc, at)?), at + 1));
         }
         match self.reserved(at) {
-            Some(word) => Ok((Label::Reserved(word), at + 1)),
+            Some(word) => Ok((Word::Reserved(word), at + 1)),
             None => Err(Stop::Unexpected(at)),
+        }
+    }
+
+    /// Whether a name comes next that is spelled so.
+    #[tactic(auto, using(crate::proofs::Words::called_here, crate::proofs::Words::called_else))]
+    pub fn is_called(&self, at: usize, word: &str) -> bool
+        ensures is { result ≡ called_next word.now (toks self.now.bytes.now self.now.tokens.now at) }
+        ensures within { IsTrue result → at < length self.now.tokens.now }
+        ensures next { IsTrue result → at + 1 < 2 ^ 64 }
+    {
+        if self.is_name(at) {
+            self.spelling(&self.tokens[at]) == word.as_bytes()
+        } else {
+            false
+        }
+    }
+
+    /// What `new` makes that comes next.
+    #[tactic(auto, using(crate::proofs::Words::container_is))]
+    pub fn container(&self, at: usize) -> Option<Container>
+        ensures is { result ≡ container_next (toks self.now.bytes.now self.now.tokens.now at) }
+        ensures within { IfSome result (λ _. at < length self.now.tokens.now) }
+        ensures next { IfSome result (λ _. at + 1 < 2 ^ 64) }
+    {
+        match self.kind(at) {
+            Some(Kind::Reserved(word)) => container(word),
+            _ => None,
+        }
+    }
+
+    /// `const` or `let` that comes next: whether it is `const`.
+    #[tactic(auto, using(crate::proofs::Words::declaring_is))]
+    pub fn declares(&self, at: usize) -> Option<bool>
+        ensures is { result ≡ declaring_next (toks self.now.bytes.now self.now.tokens.now at) }
+        ensures within { IfSome result (λ _. at < length self.now.tokens.now) }
+        ensures next { IfSome result (λ _. at + 1 < 2 ^ 64) }
+    {
+        match self.kind(at) {
+            Some(Kind::Reserved(word)) => declares(word),
+            _ => None,
+        }
+    }
+
+    /// The sign of an assignment that comes next, with its operator where it has one.
+    #[tactic(auto, using(crate::proofs::Words::assign_is))]
+    pub fn assign(&self, at: usize) -> Option<Option<Compound>>
+        ensures is { result ≡ assign_next (toks self.now.bytes.now self.now.tokens.now at) }
+        ensures within { IfSome result (λ _. at < length self.now.tokens.now) }
+        ensures next { IfSome result (λ _. at + 1 < 2 ^ 64) }
+    {
+        match self.kind(at) {
+            Some(Kind::Sign(sign)) => assign(sign),
+            _ => None,
         }
     }
 
     /// The value of the text that comes next; `None` where none comes.
     #[tactic(auto, using(crate::proofs::Seen::text_here, crate::proofs::Seen::text_elsewhere))]
-    pub(crate) fn text(&self, alloc: Global, at: usize) -> Result<Option<Text>, Stop>
+    pub fn text(&self, alloc: Global, at: usize) -> Result<Option<Text>, Stop>
         ensures is { IfOk result (λ o. o ≡ text_next (toks self.now.bytes.now self.now.tokens.now at)) }
         ensures within { IfOk result (λ o. IfSome o (λ _. at < length self.now.tokens.now)) }
         ensures next { IfOk result (λ o. IfSome o (λ _. at + 1 < 2 ^ 64)) }
@@ -267,7 +348,7 @@ impl Source<'_> {
 
     /// A literal.
     #[tactic(auto, using(crate::proofs::Seen::literal_integer, crate::proofs::Seen::literal_big, crate::proofs::Seen::literal_name, crate::proofs::Seen::literal_sign, crate::proofs::Seen::literal_end, crate::proofs::Seen::literal_text, crate::proofs::Seen::literal_no_text, crate::proofs::Seen::literal_word, crate::proofs::Seen::literal_no_word, script_tree::proofs::Views::view_text, script_tree::proofs::Views::view_number))]
-    pub(crate) fn literal(&self, alloc: Global, at: usize) -> Result<(Expr, usize), Stop>
+    pub fn literal(&self, alloc: Global, at: usize) -> Result<(Expr, usize), Stop>
         ensures is { Reads view literals self.now.bytes.now self.now.tokens.now at result }
         ensures forward { Forward at result }
     {
@@ -313,6 +394,40 @@ fn level_of(sign: Sign) -> usize
         Sign::And => 4,
         Sign::Or => 5,
         _ => 6,
+    }
+}
+
+/// What `new` makes by this word.
+fn container(word: Reserved) -> Option<Container>
+    ensures { result ≡ container_of (Kept word) }
+{
+    match word {
+        Reserved::Map => Some(Container::Map),
+        Reserved::Set => Some(Container::Set),
+        _ => None,
+    }
+}
+
+fn declares(word: Reserved) -> Option<bool>
+    ensures { result ≡ declaring_of (Kept word) }
+{
+    match word {
+        Reserved::Const => Some(true),
+        Reserved::Let => Some(false),
+        _ => None,
+    }
+}
+
+fn assign(sign: Sign) -> Option<Option<Compound>>
+    ensures { result ≡ assign_of (Fixed sign) }
+{
+    match sign {
+        Sign::Assign => Some(None),
+        Sign::PlusAssign => Some(Some(Compound::Add)),
+        Sign::MinusAssign => Some(Some(Compound::Subtract)),
+        Sign::StarAssign => Some(Some(Compound::Multiply)),
+        Sign::PercentAssign => Some(Some(Compound::Remainder)),
+        _ => None,
     }
 }
 

@@ -13,7 +13,7 @@ use Rattle.script_text.specs.declared.text.TextStep.TheVariants as step
 use Rattle.script_text.specs.declared.token.Inside.{Inside}
 use Rattle.script_text.specs.declared.token.Inside.TheVariants.{Plain}
 use Rattle.script_grammar.specs.Tokens.{usable, text_value}
-use Rattle.js_expr.specs.Values.{joined, usable_bytes}
+use Rattle.js_source.specs.Values.{joined, usable_bytes}
 
 joined_before : (v bytes : List ℕ) (f : Option Found) → joined v (before bytes f) ≡ joined (v ++ bytes) f
 unfolding joined

@@ -10,9 +10,12 @@ use Rattle.script_grammar.specs.Tokens.{Tok, Toks, bytes_of}
 use Rattle.script_parser.specs.Steps.{first, Parser}
 use Rattle.script_text.specs.Lexical.{largest}
 use Rattle.script_grammar.specs.Rules.{is_unary, level_of}
-use Rattle.script_parser.specs.Tests.{code, link_of, unary_of, text_of}
+use Rattle.script_parser.specs.Tests.{code, link_of, unary_of, text_of, begins_suffix, container_of, called, array_of, declaring_of, assign_of, is_some}
 use Rattle.script_parser.specs.Parser.{literal}
 use Rattle.script_grammar.specs.Trees.{Lit, Ex, Literal}
+use Rattle.script_grammar.specs.declared.Container.{Container}
+use Rattle.script_grammar.specs.declared.Compound.{Compound}
+use Rattle.script_grammar.specs.Tokens.{Kept, Fixed}
 
 abbrev pub next_kind : List Token → Option Kind
 next_kind [] = None
@@ -74,3 +77,33 @@ lit_ex (Some l) = Some (Literal l)
 -- the integer, where it is within its limit
 unfoldable pub small : ℕ → Option ℕ
 small n = if nat_lt largest n then None else Some n
+
+-- a step behind an expression comes next
+abbrev pub suffix_next : Option Tok → Bool
+suffix_next None = false
+suffix_next (Some t) = begins_suffix t
+
+-- a test of one token, by the kind of a word or of a sign
+abbrev pub kept_kind : {A : Type 0} → (Tok → Option A) → Option Kind → Option A
+kept_kind f (Some (kind.Reserved r)) = f (Kept r)
+kept_kind f _ = None
+
+abbrev pub sign_kind : {A : Type 0} → (Tok → Option A) → Option Kind → Option A
+sign_kind f (Some (kind.Sign s)) = f (Fixed s)
+sign_kind f _ = None
+
+-- what `new` makes comes next
+unfoldable pub container_next : Toks → Option Container
+container_next ts = made container_of (first ts)
+
+-- `const` or `let` comes next
+unfoldable pub declaring_next : Toks → Option Bool
+declaring_next ts = made declaring_of (first ts)
+
+-- the sign of an assignment comes next
+unfoldable pub assign_next : Toks → Option (Option Compound)
+assign_next ts = made assign_of (first ts)
+
+-- this name comes next
+unfoldable pub called_next : List ℕ → Toks → Bool
+called_next word ts = is_some (made (called word) (first ts))

@@ -1,8 +1,8 @@
 use Rattle.std.proofs.Common.{sym, ◌∙◌, ap, subst, List, ℕ}
 use Rattle.std.specs.Prelude.{Some, Err, ◌<◌, length}
 use Rattle.script_text.specs.Lexical.{longest_text}
-use Rattle.js_expr.proofs.Values.{not_utf8, of_utf8, too_long}
-use Rattle.js_expr.proofs.text.usable.Goals as goal
+use Rattle.js_source.proofs.Values.{not_utf8, of_utf8, too_long}
+use Rattle.js_source.proofs.text.usable.Goals as goal
 
 pub returns-in_default-clause-value : goal.returns-in_default-clause-value
 returns-in_default-clause-value c = sym (not_utf8 c.args.bytes.now c.in_default.ensures.cases.0)
