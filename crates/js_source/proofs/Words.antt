@@ -12,9 +12,9 @@ use Rattle.script_grammar.specs.Tokens.{Tok, Name, Kept, Integer, Text, Fixed, O
 use Rattle.script_grammar.specs.Sources.{toks}
 use Rattle.script_parser.specs.Steps.{taken, take as read, first}
 use Rattle.script_parser.specs.Tests.{is_some, name_of, called, container_of, declaring_of, assign_of, is_some}
-use Rattle.js_source.specs.Next.{next_kind, is_name, made, kept_kind, sign_kind, container_next, declaring_next, assign_next, called_next}
+use Rattle.js_source.specs.Next.{next_kind, is_name, first_bytes, made, kept_kind, sign_kind, container_next, declaring_next, assign_next, called_next}
 use Rattle.js_source.specs.Values.{usable_bytes}
-use Rattle.js_source.proofs.Seen.{toks_here, read_some, some_token}
+use Rattle.js_source.proofs.Seen.{toks_here, read_some, some_token, first_bytes_is}
 
 -- the bytes of a name within the limit
 pub usable_same : (b v : List ℕ) → Some v ≡ usable_bytes b → v ≡ b
@@ -25,6 +25,9 @@ usable_same b v e = go (nat_lt longest_text (length b)) (is_utf8 b) e
     go true y e = absurd cc
     go false true e = cc
     go false false e = absurd cc
+
+pub key_text : (at : ℕ) (bytes : List ℕ) (tokens : List Token) (t : Token) (v spelled : List ℕ) → at < length tokens → spelled ≡ bytes_of bytes (slice_index_or tokens at t) → Some v ≡ usable_bytes spelled → ◌≡◌ {A = ℕ × List ℕ} (at, v) (at, first_bytes bytes (drop at tokens))
+key_text at bytes tokens t v spelled l h u = ap (λ (b : List ℕ). (at, b)) (usable_same spelled v u ∙ h ∙ sym (first_bytes_is bytes tokens at t l))
 
 -- ---- tests of one kind
 integer_none : {A : Type 0} (f : Tok → Option A) (n : ℕ) → f Other ≡ None → f (Integer n) ≡ None → f (if nat_lt largest n then Other else Integer n) ≡ None

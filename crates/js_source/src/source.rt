@@ -234,7 +234,7 @@ impl Source<'_> {
     }
 
     /// The name that this token is, as a key.
-    #[tactic(auto, using(crate::proofs::Seen::first_bytes_is, crate::proofs::Words::usable_same))]
+    #[tactic(auto, using(crate::proofs::Words::key_text))]
     fn made_key(&self, alloc: Global, at: usize) -> Result<NameKey, Stop>
         requires { at < length self.now.tokens.now }
         ensures key { IfOk result (λ n. key_pair n ≡ (at, first_bytes self.now.bytes.now (drop at self.now.tokens.now))) }

@@ -1,0 +1,140 @@
+-- The steps of arguments and calls.
+use Rattle.std.proofs.Common.{◌≡◌, ◌≢◌, ℕ, ◌+◌, ◌-◌, Bool, true, false, List, [], ◌∷◌, ◌++◌, map, Option, Some, None, Ok, Err, refl, sym, ap, ◌∙◌}
+use Rattle.std.specs.Str.{bytes_eq}
+use Rattle.std.proofs.lemmas.Slice.Eq.{bytes_eq-Decides}
+use Rattle.script_text.specs.declared.sign.Sign.TheVariants.{OpenRound, CloseRound, Comma}
+use Rattle.script_text.specs.declared.method.Method.{Method}
+use Rattle.script_text.specs.declared.method.Method.TheVariants as method
+use Rattle.script_text.specs.declared.method.Arity.{Arity}
+use Rattle.script_text.specs.declared.method.Arity.TheVariants as takes
+use Rattle.script_text.specs.declared.word.Reserved.{Reserved}
+use Rattle.script_text.specs.declared.word.Reserved.TheVariants as kept
+use Rattle.script_text.specs.Methods.{arity, method_word, methods, first_method, named_method}
+use Rattle.script_text.specs.declared.token.Token.{Token}
+use Rattle.script_grammar.specs.Tokens.{Toks}
+use Rattle.script_grammar.specs.Sources.{toks}
+use Rattle.script_grammar.specs.Rules.{method_at}
+use Rattle.script_grammar.specs.Trees.{Ex, Args, FirstArg, More, NoMore, ThenMore, Word, Named, Reserve, Suffix, Dot, Call}
+use Rattle.script_parser.specs.Steps.{Why, TooNested, Outcome, and_then, ◌>>=◌, pure, first, look}
+use Rattle.script_parser.specs.Tests.{fixed, sees}
+use Rattle.script_parser.specs.Parser.{expect, further, more, args, calling, method_by, dot_by, expr, below}
+use Rattle.script_parser.proofs.Calls.{more_is}
+use Rattle.script_parser.proofs.Accept.{under, goods_under}
+use Rattle.script_tree.specs.declared.Expr.{Expr}
+use Rattle.script_tree.specs.View.{view, args_of, more_of, call_word}
+use Rattle.js_source.proofs.Seen.{sign_read}
+use Rattle.js_post.specs.Calls.{args_view, args_at, tail_at, arguments_at, word_at, more_before, args_before, onto_args}
+use Rattle.js_post.proofs.Opened.{deep, within, made_sign}
+
+pub any_ok : (d : ℕ) (ts rest : Toks) (e : Ex) (x : Args × Toks) → expr (below d) ts ≡ Ok (e, rest) → tail_at d e rest ≡ Ok x → args_at d takes.OneOrMore ts ≡ Ok x
+unfolding args_at tail_at
+any_ok d ts rest e x h k = rw h k
+
+pub any_err : (d : ℕ) (ts rest : Toks) (e : Ex) (x : Why × Toks) → expr (below d) ts ≡ Ok (e, rest) → tail_at d e rest ≡ Err x → args_at d takes.OneOrMore ts ≡ Err x
+unfolding args_at tail_at
+any_err d ts rest e x h k = rw h k
+
+pub tail_start : (d : ℕ) (e : Expr) (ts : Toks) → onto_args (e ∷ []) (more (under d) ts) ≡ tail_at d (view e) ts
+unfolding tail_at
+tail_start d e ts = refl
+
+more_ended : (es : List Expr) → more_before es NoMore ≡ more_of (map view es)
+more_ended [] = refl
+more_ended (e ∷ es) = ap (ThenMore (view e)) (more_ended es)
+
+args_ended : (es : List Expr) → args_before es NoMore ≡ args_of (map view es)
+args_ended [] = refl
+args_ended (e ∷ es) = ap (FirstArg (view e)) (more_ended es)
+
+args_more : (found : List Expr) (e : Expr) (m : More) → (found ≡ [] → ⊥) → args_before found (ThenMore (view e) m) ≡ args_before (found ++ e ∷ []) m
+args_more [] e m n = absurd (n refl)
+args_more (f ∷ found) e m n = ap (FirstArg (view f)) (go found)
+  where
+    go : (found : List Expr) → more_before found (ThenMore (view e) m) ≡ more_before (found ++ e ∷ []) m
+    go [] = refl
+    go (g ∷ gs) = ap (ThenMore (view g)) (go gs)
+
+more_stops : (d : ℕ) (ts : Toks) → sees Comma (first ts) ≡ false → more (under d) ts ≡ Ok (NoMore, ts)
+more_stops d [] h = more_is d (under d) (goods_under d) []
+more_stops d (t ∷ ts) h = more_is d (under d) (goods_under d) (t ∷ ts) ∙ rw h refl
+
+pub tail_end : (d : ℕ) (found : List Expr) (ts : Toks) → sees Comma (first ts) ≡ false → onto_args found (more (under d) ts) ≡ Ok (args_view found, ts)
+tail_end d found ts h = ap (onto_args found) (more_stops d ts h) ∙ ap (λ (xs : Args). Ok (xs, ts)) (args_ended found)
+
+more_turn : (d : ℕ) (bytes : List ℕ) (tokens : List Token) (at : ℕ) → sees Comma (first (toks bytes tokens at)) ≡ true → more (under d) (toks bytes tokens at) ≡ and_then (expr (below d) (toks bytes tokens (at + 1))) (λ e. more (under d) >>= λ m. pure (ThenMore e m))
+more_turn d bytes tokens at h = go (toks bytes tokens at) refl h
+  where
+    go : (ts : Toks) → toks bytes tokens at ≡ ts → sees Comma (first ts) ≡ true → more (under d) ts ≡ and_then (expr (below d) (toks bytes tokens (at + 1))) (λ e. more (under d) >>= λ m. pure (ThenMore e m))
+    go [] q h = absurd cc
+    go (t ∷ ts) q h = more_is d (under d) (goods_under d) (t ∷ ts) ∙ rw (h, ← q, sign_read Comma bytes tokens at (rw q h)) refl
+
+pub tail_on : (d : ℕ) (bytes : List ℕ) (tokens : List Token) (at : ℕ) (rest : Toks) (e : Expr) (found : List Expr) → (found ≡ [] → ⊥) → sees Comma (first (toks bytes tokens at)) ≡ true → expr (below d) (toks bytes tokens (at + 1)) ≡ Ok (view e, rest) → onto_args found (more (under d) (toks bytes tokens at)) ≡ onto_args (found ++ e ∷ []) (more (under d) rest)
+tail_on d bytes tokens at rest e found n h k = ap (onto_args found) (more_turn d bytes tokens at h ∙ rw k refl) ∙ go (more (under d) rest)
+  where
+    go : (out : Outcome More) → onto_args found (and_then out (λ m. pure (ThenMore (view e) m))) ≡ onto_args (found ++ e ∷ []) out
+    go (Ok q) = ap (λ (xs : Args). Ok (xs, q.1)) (args_more found e q.0 n)
+    go (Err x) = refl
+
+pub tail_fault : (d : ℕ) (bytes : List ℕ) (tokens : List Token) (at : ℕ) (x : Why × Toks) (found : List Expr) → sees Comma (first (toks bytes tokens at)) ≡ true → expr (below d) (toks bytes tokens (at + 1)) ≡ Err x → onto_args found (more (under d) (toks bytes tokens at)) ≡ Err x
+tail_fault d bytes tokens at x found h k = let whole : more (under d) (toks bytes tokens at) ≡ Err x = more_turn d bytes tokens at h ∙ rw k refl in ap (onto_args found) whole
+
+-- ---- the word of a method
+All : (Method → Type 0) → List Method → Type 0
+All P [] = Unit {0}
+All P (m ∷ ms) = P m × All P ms
+
+found_in : (P : Method → Type 0) (ms : List Method) (bytes : List ℕ) (m : Method) → All P ms → first_method ms bytes ≡ Some m → P m × (bytes ≡ method_word m)
+unfolding All
+found_in P [] bytes m a h = absurd cc
+found_in P (k ∷ ks) bytes m a h = go (bytes_eq (method_word k) bytes) refl h
+  where
+    go : (b : Bool) → bytes_eq (method_word k) bytes ≡ b → Rattle.std.specs.Prelude.if◌then◌else◌ b (Some k) (first_method ks bytes) ≡ Some m → P m × (bytes ≡ method_word m)
+    go true e h = let same : k ≡ m = cc in Rattle.std.proofs.Common.subst (λ (m : Method). P m × (bytes ≡ method_word m)) same (a.0, sym ((bytes_eq-Decides (method_word k) bytes).0 e))
+    go false e h = found_in P ks bytes m a.1 h
+
+pub call_named : (at : ℕ) (bytes : List ℕ) (m : Method) → named_method bytes ≡ Some m → call_word at m ≡ Named at bytes
+unfolding named_method All
+call_named at bytes m h = let f = found_in (λ m. call_word at m ≡ Named at (method_word m)) methods bytes m (refl, (refl, (refl, (refl, (refl, (refl, (refl, (refl, (refl, (refl, (refl, (refl, (refl, (refl, tt)))))))))))))) h in f.0 ∙ ap (Named at) (sym f.1)
+
+-- ---- behind a dot and a word
+bracket : (w : Word) (m : Method) (b : Bool) → Some m ≡ method_by w b → b ≡ true
+bracket w m true h = refl
+bracket w m false h = absurd cc
+
+pub word_alone : (d : ℕ) (w : Word) (ts : Toks) → None ≡ method_by w (sees OpenRound (first ts)) → word_at d w ts ≡ Ok (Dot w, ts)
+unfolding word_at
+word_alone d w ts h = rw (← h) refl
+
+pub word_deep : (d : ℕ) (w : Word) (m : Method) (ts : Toks) → d ≡ 0 → Some m ≡ method_by w (sees OpenRound (first ts)) → word_at d w ts ≡ Err (TooNested, ts)
+unfolding word_at
+word_deep d w m ts e h = rw (← h) (deep (fixed OpenRound) (calling w (arity m)) d ts tt e (made_sign OpenRound ts (bracket w m (sees OpenRound (first ts)) h)))
+
+calling_split : (w : Word) (k : Arity) (d : ℕ) (ts : Toks) → calling w k (under d) ts ≡ and_then (arguments_at d k ts) (λ xs. pure (Call w xs))
+unfolding args_at
+calling_split w k d ts = one (expect OpenRound ts)
+  where
+    close : (xs : Args) (out : Outcome (Unit {0})) → and_then out (λ _. pure (Call w xs)) ≡ and_then (and_then out (λ _. pure xs)) (λ xs. pure (Call w xs))
+    close xs (Ok q) = refl
+    close xs (Err e) = refl
+
+    two : (out : Outcome Args) → and_then out (λ xs. expect CloseRound >>= λ _. pure (Call w xs)) ≡ and_then (and_then out (λ xs. expect CloseRound >>= λ _. pure xs)) (λ xs. pure (Call w xs))
+    two (Ok q) = close q.0 (expect CloseRound q.1)
+    two (Err e) = refl
+
+    one : (out : Outcome (Unit {0})) → and_then out (λ _. args (under d) k >>= λ xs. expect CloseRound >>= λ _. pure (Call w xs)) ≡ and_then (and_then out (λ _. args (under d) k >>= λ xs. expect CloseRound >>= λ _. pure xs)) (λ xs. pure (Call w xs))
+    one (Ok q) = two (args (under d) k q.1)
+    one (Err e) = refl
+
+word_call : (d : ℕ) (w : Word) (m : Method) (ts : Toks) → d ≢ 0 → Some m ≡ method_by w (sees OpenRound (first ts)) → word_at d w ts ≡ and_then (arguments_at (d - 1) (arity m) ts) (λ xs. pure (Call w xs))
+unfolding word_at
+word_call d w m ts e h = rw (← h) (within (fixed OpenRound) (calling w (arity m)) d ts e ∙ calling_split w (arity m) (d - 1) ts)
+
+pub word_ok : (d : ℕ) (w : Word) (m : Method) (ts rest : Toks) (xs : Args) → d ≢ 0 → Some m ≡ method_by w (sees OpenRound (first ts)) → arguments_at (d - 1) (arity m) ts ≡ Ok (xs, rest) → word_at d w ts ≡ Ok (Call w xs, rest)
+word_ok d w m ts rest xs e h k = word_call d w m ts e h ∙ ap (λ (out : Outcome Args). and_then out (λ xs. pure (Call w xs))) k
+
+pub word_err : (d : ℕ) (w : Word) (m : Method) (ts : Toks) (x : Why × Toks) → d ≢ 0 → Some m ≡ method_by w (sees OpenRound (first ts)) → arguments_at (d - 1) (arity m) ts ≡ Err x → word_at d w ts ≡ Err x
+word_err d w m ts x e h k = word_call d w m ts e h ∙ ap (λ (out : Outcome Args). and_then out (λ xs. pure (Call w xs))) k
+
+pub method_of_word : (w : Word) (m : Method) (b : Bool) → Some m ≡ method_by w b → method_at w ≡ Some m
+method_of_word w m true h = sym h
+method_of_word w m false h = absurd cc
