@@ -1,5 +1,6 @@
 -- The steps of arguments and calls.
-use Rattle.std.proofs.Common.{◌≡◌, ◌≢◌, ℕ, ◌+◌, ◌-◌, Bool, true, false, List, [], ◌∷◌, ◌++◌, map, Option, Some, None, Ok, Err, refl, sym, ap, ◌∙◌}
+use Rattle.std.proofs.Common.{◌≡◌, ◌≢◌, ℕ, ◌+◌, ◌-◌, Bool, true, false, List, [], ◌∷◌, ◌++◌, map, Option, Some, None, Ok, Err, refl, sym, ap, subst, ◌∙◌}
+use Rattle.std.specs.Prelude.{if◌then◌else◌}
 use Rattle.std.specs.Str.{bytes_eq}
 use Rattle.std.proofs.lemmas.Slice.Eq.{bytes_eq-Decides}
 use Rattle.script_text.specs.declared.sign.Sign.TheVariants.{OpenRound, CloseRound, Comma}
@@ -23,20 +24,19 @@ use Rattle.script_parser.proofs.Accept.{under, goods_under}
 use Rattle.script_tree.specs.declared.Expr.{Expr}
 use Rattle.script_tree.specs.View.{view, args_of, more_of, call_word}
 use Rattle.js_source.proofs.Seen.{sign_read}
-use Rattle.js_post.specs.Calls.{args_view, args_at, tail_at, arguments_at, word_at, more_before, args_before, onto_args}
+use Rattle.js_post.specs.Calls.{args_view, args_at, arguments_at, word_at, more_before, args_before, onto_args}
+use Rattle.script_tree.specs.declared.Access.{Access}
+use Rattle.script_tree.specs.declared.Access.TheVariants as access
+use Rattle.js_post.specs.Lists.{one_suffix, IsCall}
 use Rattle.js_post.proofs.Opened.{deep, within, made_sign}
 
-pub any_ok : (d : ℕ) (ts rest : Toks) (e : Ex) (x : Args × Toks) → expr (below d) ts ≡ Ok (e, rest) → tail_at d e rest ≡ Ok x → args_at d takes.OneOrMore ts ≡ Ok x
-unfolding args_at tail_at
-any_ok d ts rest e x h k = rw h k
+pub any_start : (d : ℕ) (ts rest : Toks) (e : Expr) → expr (below d) ts ≡ Ok (view e, rest) → onto_args (e ∷ []) (more (under d) rest) ≡ args_at d takes.OneOrMore ts
+unfolding args_at
+any_start d ts rest e h = rw h refl
 
-pub any_err : (d : ℕ) (ts rest : Toks) (e : Ex) (x : Why × Toks) → expr (below d) ts ≡ Ok (e, rest) → tail_at d e rest ≡ Err x → args_at d takes.OneOrMore ts ≡ Err x
-unfolding args_at tail_at
-any_err d ts rest e x h k = rw h k
-
-pub tail_start : (d : ℕ) (e : Expr) (ts : Toks) → onto_args (e ∷ []) (more (under d) ts) ≡ tail_at d (view e) ts
-unfolding tail_at
-tail_start d e ts = refl
+pub any_err : (d : ℕ) (ts : Toks) (x : Why × Toks) → expr (below d) ts ≡ Err x → args_at d takes.OneOrMore ts ≡ Err x
+unfolding args_at
+any_err d ts x h = rw h refl
 
 more_ended : (es : List Expr) → more_before es NoMore ≡ more_of (map view es)
 more_ended [] = refl
@@ -86,11 +86,11 @@ All P (m ∷ ms) = P m × All P ms
 found_in : (P : Method → Type 0) (ms : List Method) (bytes : List ℕ) (m : Method) → All P ms → first_method ms bytes ≡ Some m → P m × (bytes ≡ method_word m)
 unfolding All
 found_in P [] bytes m a h = absurd cc
-found_in P (k ∷ ks) bytes m a h = go (bytes_eq (method_word k) bytes) refl h
+found_in P (k ∷ ks) bytes m a h = go (bytes_eq (method_word k) bytes) refl h (found_in P ks bytes m a.1)
   where
-    go : (b : Bool) → bytes_eq (method_word k) bytes ≡ b → Rattle.std.specs.Prelude.if◌then◌else◌ b (Some k) (first_method ks bytes) ≡ Some m → P m × (bytes ≡ method_word m)
-    go true e h = let same : k ≡ m = cc in Rattle.std.proofs.Common.subst (λ (m : Method). P m × (bytes ≡ method_word m)) same (a.0, sym ((bytes_eq-Decides (method_word k) bytes).0 e))
-    go false e h = found_in P ks bytes m a.1 h
+    go : (b : Bool) → bytes_eq (method_word k) bytes ≡ b → (if b then Some k else first_method ks bytes) ≡ Some m → (first_method ks bytes ≡ Some m → P m × (bytes ≡ method_word m)) → P m × (bytes ≡ method_word m)
+    go true e h ih = let same : k ≡ m = cc in subst (λ (m : Method). P m × (bytes ≡ method_word m)) same (a.0, sym ((bytes_eq-Decides (method_word k) bytes).0 e))
+    go false e h ih = ih h
 
 pub call_named : (at : ℕ) (bytes : List ℕ) (m : Method) → named_method bytes ≡ Some m → call_word at m ≡ Named at bytes
 unfolding named_method All
@@ -138,3 +138,15 @@ word_err d w m ts x e h k = word_call d w m ts e h ∙ ap (λ (out : Outcome Arg
 pub method_of_word : (w : Word) (m : Method) (b : Bool) → Some m ≡ method_by w b → method_at w ≡ Some m
 method_of_word w m true h = sym h
 method_of_word w m false h = absurd cc
+
+pub call_kept : (m : Method) (r : Reserved) → method_at (Reserve r) ≡ Some m → call_word 0 m ≡ Reserve r
+call_kept m kept.Delete h = let same : method.Delete ≡ m = cc in ap (call_word 0) (sym same)
+call_kept m _ h = absurd cc
+
+pub call_view : (a : Access) (w : Word) (xs : List Expr) → IsCall a w → one_suffix (a, xs) ≡ Call w (args_view xs)
+call_view (access.Call at m) w xs h = rw h refl
+call_view (access.Dot v) w xs h = absurd h
+call_view access.Index w xs h = absurd h
+
+pub word_called : (d : ℕ) (w : Word) (m : Method) (ts rest : Toks) (a : Access) (xs : List Expr) → d ≢ 0 → Some m ≡ method_by w (sees OpenRound (first ts)) → IsCall a w → arguments_at (d - 1) (arity m) ts ≡ Ok (args_view xs, rest) → word_at d w ts ≡ Ok (one_suffix (a, xs), rest)
+word_called d w m ts rest a xs e h c k = word_ok d w m ts rest (args_view xs) e h k ∙ ap (λ (s : Suffix). Ok (s, rest)) (sym (call_view a w xs c))

@@ -1,2 +1,4 @@
 pub mod Opened
 pub mod Calls
+pub mod Suffixes
+pub mod Props

@@ -17,10 +17,6 @@ args_view es = args_of (map view es)
 unfoldable pub args_at : ℕ → Arity → Parser Args
 args_at d k ts = args (under d) k ts
 
--- what stands behind a first argument
-unfoldable pub tail_at : ℕ → Ex → Parser Args
-tail_at d e ts = and_then (more (under d) ts) (λ m. pure (FirstArg e m))
-
 -- the arguments between their brackets
 abbrev pub arguments_at : ℕ → Arity → Parser Args
 arguments_at d k = expect OpenRound >>= λ _. args_at d k >>= λ xs. expect CloseRound >>= λ _. pure xs

@@ -5,7 +5,7 @@ ghost use Rattle.script_tree.specs.View.{view};
 ghost use Rattle.script_text.specs.declared.method.Arity.TheVariants.{Nothing, Single, Double, UpToTwo, OneOrMore};
 ghost use Rattle.js_source.specs.Reading.{Reads, Forward};
 ghost use Rattle.js_post.specs.Nests.{Nests};
-ghost use Rattle.js_post.specs.Calls.{args_view, args_at, tail_at, arguments_at};
+ghost use Rattle.js_post.specs.Calls.{args_view, args_at, arguments_at};
 
 use crate::rules::{Part, Rules};
 use js_source::{Source, Stop};
@@ -103,28 +103,17 @@ impl<F: Fn(Global, Source<'_>, usize, usize, Part) -> Result<(Expr, usize), Stop
         Ok((found, at))
     }
 
-    #[tactic(auto, using(crate::proofs::Calls::any_ok, crate::proofs::Calls::any_err))]
+    #[tactic(auto, using(crate::proofs::Calls::any_start, crate::proofs::Calls::any_err, crate::proofs::Calls::tail_end, crate::proofs::Calls::tail_on, crate::proofs::Calls::tail_fault))]
     fn one_or_more(&self, at: usize) -> Result<(Items<Expr>, usize), Stop>
         requires left { 0 < self.now.depth }
         requires nests { Nests self.now.depth (F.pre self.now.read) (F.post self.now.read) }
         ensures is { Reads args_view (args_at (self.now.depth - 1) OneOrMore) self.now.source.bytes.now self.now.source.tokens.now at result }
         ensures forward { Forward at result }
     {
-        let (first, at) = self.inner(at, Part::Whole)?;
-        self.further(at, first)
-    }
-
-    /// The arguments behind this one, each behind a comma.
-    #[tactic(auto, using(crate::proofs::Calls::tail_start, crate::proofs::Calls::tail_end, crate::proofs::Calls::tail_on, crate::proofs::Calls::tail_fault))]
-    fn further(&self, at: usize, first: Expr) -> Result<(Items<Expr>, usize), Stop>
-        requires left { 0 < self.now.depth }
-        requires nests { Nests self.now.depth (F.pre self.now.read) (F.post self.now.read) }
-        ensures is { Reads args_view (tail_at (self.now.depth - 1) (view first)) self.now.source.bytes.now self.now.source.tokens.now at result }
-        ensures forward { Forward at result }
-    {
         let mut found = Vec::new(self.alloc);
+        let (first, after) = self.inner(at, Part::Whole)?;
         found.push(first)?;
-        let mut next = at;
+        let mut next = after;
         'more: while self.source.sees(next, Sign::Comma) {
             let (argument, after) = self.inner(next + 1, Part::Whole)?;
             found.push(argument)?;

@@ -1,7 +1,8 @@
-//! What stands alone in a script.
+//! What stands alone in a script, and the steps behind it.
 #![tactic(auto)]
 
 mod arguments;
+mod object;
 mod rules;
 
 pub use rules::{Part, Rules};
