@@ -24,14 +24,14 @@ use Rattle.script_parser.proofs.Accept.{under, goods_under}
 use Rattle.script_tree.specs.declared.Expr.{Expr}
 use Rattle.script_tree.specs.View.{view, args_of, more_of, call_word}
 use Rattle.js_source.proofs.Seen.{sign_read}
-use Rattle.js_post.specs.Calls.{args_view, args_at, arguments_at, word_at, more_before, args_before, onto_args}
+use Rattle.js_post.specs.Calls.{args_view, args_at, further_at, more_at, arguments_at, word_at, more_before, args_before, onto_args}
 use Rattle.script_tree.specs.declared.Access.{Access}
 use Rattle.script_tree.specs.declared.Access.TheVariants as access
 use Rattle.js_post.specs.Lists.{one_suffix, IsCall}
 use Rattle.js_post.proofs.Opened.{deep, within, made_sign}
 
-pub any_start : (d : ℕ) (ts rest : Toks) (e : Expr) → expr (below d) ts ≡ Ok (view e, rest) → onto_args (e ∷ []) (more (under d) rest) ≡ args_at d takes.OneOrMore ts
-unfolding args_at
+pub any_start : (d : ℕ) (ts rest : Toks) (e : Expr) → expr (below d) ts ≡ Ok (view e, rest) → onto_args (e ∷ []) (more_at d rest) ≡ args_at d takes.OneOrMore ts
+unfolding args_at more_at
 any_start d ts rest e h = rw h refl
 
 pub any_err : (d : ℕ) (ts : Toks) (x : Why × Toks) → expr (below d) ts ≡ Err x → args_at d takes.OneOrMore ts ≡ Err x
@@ -46,37 +46,36 @@ args_ended : (es : List Expr) → args_before es NoMore ≡ args_of (map view es
 args_ended [] = refl
 args_ended (e ∷ es) = ap (FirstArg (view e)) (more_ended es)
 
-args_more : (found : List Expr) (e : Expr) (m : More) → (found ≡ [] → ⊥) → args_before found (ThenMore (view e) m) ≡ args_before (found ++ e ∷ []) m
-args_more [] e m n = absurd (n refl)
-args_more (f ∷ found) e m n = ap (FirstArg (view f)) (go found)
+args_more : (found : List Expr) (e : Expr) (out : Outcome More) → onto_args found (and_then out (λ m. pure (ThenMore (view e) m))) ≡ onto_args (found ++ e ∷ []) out
+args_more found e (Err x) = refl
+args_more found e (Ok q) = ap (λ (xs : Args). Ok (xs, q.1)) (from found)
   where
-    go : (found : List Expr) → more_before found (ThenMore (view e) m) ≡ more_before (found ++ e ∷ []) m
+    go : (found : List Expr) → more_before found (ThenMore (view e) q.0) ≡ more_before (found ++ e ∷ []) q.0
     go [] = refl
     go (g ∷ gs) = ap (ThenMore (view g)) (go gs)
 
-more_stops : (d : ℕ) (ts : Toks) → sees Comma (first ts) ≡ false → more (under d) ts ≡ Ok (NoMore, ts)
+    from : (found : List Expr) → args_before found (ThenMore (view e) q.0) ≡ args_before (found ++ e ∷ []) q.0
+    from [] = refl
+    from (f ∷ fs) = ap (FirstArg (view f)) (go fs)
+
+more_stops : (d : ℕ) (ts : Toks) → sees Comma (first ts) ≡ false → more_at d ts ≡ Ok (NoMore, ts)
+unfolding more_at
 more_stops d [] h = more_is d (under d) (goods_under d) []
 more_stops d (t ∷ ts) h = more_is d (under d) (goods_under d) (t ∷ ts) ∙ rw h refl
 
-pub tail_end : (d : ℕ) (found : List Expr) (ts : Toks) → sees Comma (first ts) ≡ false → onto_args found (more (under d) ts) ≡ Ok (args_view found, ts)
+pub tail_end : (d : ℕ) (found : List Expr) (ts : Toks) → sees Comma (first ts) ≡ false → onto_args found (more_at d ts) ≡ Ok (args_view found, ts)
 tail_end d found ts h = ap (onto_args found) (more_stops d ts h) ∙ ap (λ (xs : Args). Ok (xs, ts)) (args_ended found)
 
-more_turn : (d : ℕ) (bytes : List ℕ) (tokens : List Token) (at : ℕ) → sees Comma (first (toks bytes tokens at)) ≡ true → more (under d) (toks bytes tokens at) ≡ and_then (expr (below d) (toks bytes tokens (at + 1))) (λ e. more (under d) >>= λ m. pure (ThenMore e m))
-more_turn d bytes tokens at h = go (toks bytes tokens at) refl h
-  where
-    go : (ts : Toks) → toks bytes tokens at ≡ ts → sees Comma (first ts) ≡ true → more (under d) ts ≡ and_then (expr (below d) (toks bytes tokens (at + 1))) (λ e. more (under d) >>= λ m. pure (ThenMore e m))
-    go [] q h = absurd cc
-    go (t ∷ ts) q h = more_is d (under d) (goods_under d) (t ∷ ts) ∙ rw (h, ← q, sign_read Comma bytes tokens at (rw q h)) refl
+more_turn : (d : ℕ) (ts : Toks) → sees Comma (first ts) ≡ true → more_at d ts ≡ and_then (further_at d ts) (λ e. more_at d >>= λ m. pure (ThenMore e m))
+unfolding more_at further_at
+more_turn d [] h = absurd cc
+more_turn d (t ∷ ts) h = more_is d (under d) (goods_under d) (t ∷ ts) ∙ rw h refl
 
-pub tail_on : (d : ℕ) (bytes : List ℕ) (tokens : List Token) (at : ℕ) (rest : Toks) (e : Expr) (found : List Expr) → (found ≡ [] → ⊥) → sees Comma (first (toks bytes tokens at)) ≡ true → expr (below d) (toks bytes tokens (at + 1)) ≡ Ok (view e, rest) → onto_args found (more (under d) (toks bytes tokens at)) ≡ onto_args (found ++ e ∷ []) (more (under d) rest)
-tail_on d bytes tokens at rest e found n h k = ap (onto_args found) (more_turn d bytes tokens at h ∙ rw k refl) ∙ go (more (under d) rest)
-  where
-    go : (out : Outcome More) → onto_args found (and_then out (λ m. pure (ThenMore (view e) m))) ≡ onto_args (found ++ e ∷ []) out
-    go (Ok q) = ap (λ (xs : Args). Ok (xs, q.1)) (args_more found e q.0 n)
-    go (Err x) = refl
+pub tail_on : (d : ℕ) (ts rest : Toks) (e : Expr) (found : List Expr) → sees Comma (first ts) ≡ true → further_at d ts ≡ Ok (view e, rest) → onto_args found (more_at d ts) ≡ onto_args (found ++ e ∷ []) (more_at d rest)
+tail_on d ts rest e found h k = ap (onto_args found) (more_turn d ts h ∙ rw k refl) ∙ args_more found e (more_at d rest)
 
-pub tail_fault : (d : ℕ) (bytes : List ℕ) (tokens : List Token) (at : ℕ) (x : Why × Toks) (found : List Expr) → sees Comma (first (toks bytes tokens at)) ≡ true → expr (below d) (toks bytes tokens (at + 1)) ≡ Err x → onto_args found (more (under d) (toks bytes tokens at)) ≡ Err x
-tail_fault d bytes tokens at x found h k = let whole : more (under d) (toks bytes tokens at) ≡ Err x = more_turn d bytes tokens at h ∙ rw k refl in ap (onto_args found) whole
+pub tail_fault : (d : ℕ) (ts : Toks) (x : Why × Toks) (found : List Expr) → sees Comma (first ts) ≡ true → further_at d ts ≡ Err x → onto_args found (more_at d ts) ≡ Err x
+tail_fault d ts x found h k = let whole : more_at d ts ≡ Err x = more_turn d ts h ∙ rw k refl in ap (onto_args found) whole
 
 -- ---- the word of a method
 All : (Method → Type 0) → List Method → Type 0

@@ -1,4 +1,5 @@
 pub mod Opened
+pub mod Builtins
 pub mod Calls
 pub mod Suffixes
 pub mod Props

@@ -1,8 +1,8 @@
 -- What a token opens, at the levels that are left.
-use Rattle.std.proofs.Common.{◌≡◌, ◌≢◌, ℕ, zero, suc, ◌-◌, true, [], ◌∷◌, Option, Some, None, Err, refl, ap, arith}
+use Rattle.std.proofs.Common.{◌≡◌, ◌≢◌, ℕ, zero, suc, ◌-◌, true, false, [], ◌∷◌, Option, Some, None, Err, refl, ap, arith}
 use Rattle.script_text.specs.declared.sign.Sign.{Sign}
 use Rattle.script_grammar.specs.Tokens.{Tok, Fixed, Toks}
-use Rattle.script_parser.specs.Steps.{TooNested, Parser, too_deep, first}
+use Rattle.script_parser.specs.Steps.{Unexpected, TooNested, Parser, refused, too_deep, first}
 use Rattle.script_parser.specs.Tests.{fixed, is_some, sees}
 use Rattle.script_parser.specs.Parser.{Below, opened, below}
 use Rattle.script_parser.proofs.Tests.{of_fixed}
@@ -36,3 +36,17 @@ made_sign s (t ∷ ts) h = go (fixed s t) h
     go : (o : Option (Unit {0})) → is_some o ≡ true → o ≡ Some tt
     go None h = absurd cc
     go (Some u) h = refl
+
+-- no level is left for a bracket, or another token stands in its place
+pub no_level : {A : Type 0} (s : Sign) (p : Below → Parser A) (d : ℕ) (ts : Toks) → d ≡ 0 → sees s (first ts) ≡ true → opened (below d) (fixed s) p ts ≡ Err (TooNested, ts)
+no_level s p d ts e h = deep (fixed s) p d ts tt e (made_sign s ts h)
+
+pub no_sign : {A : Type 0} (s : Sign) (p : Below → Parser A) (d : ℕ) (ts : Toks) → d ≡ 0 → sees s (first ts) ≡ false → opened (below d) (fixed s) p ts ≡ Err (Unexpected, ts)
+unfolding below too_deep
+no_sign s p zero [] e h = refl
+no_sign {A = A} s p zero (t ∷ ts) e h = go (fixed s t) h
+  where
+    go : (o : Option (Unit {0})) → is_some o ≡ false → Err {A = A × Toks} (refused o, t ∷ ts) ≡ Err (Unexpected, t ∷ ts)
+    go None h = refl
+    go (Some u) h = absurd cc
+no_sign s p (suc d) ts e h = absurd (omega (arith, e))

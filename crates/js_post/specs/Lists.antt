@@ -1,11 +1,12 @@
 -- Lists that the code has read so far, before what the rest gives.
 use Rattle.std.specs.Prelude.{◌≡◌, ℕ, Bool, List, [], ◌∷◌, map}
 use Rattle.script_text.specs.declared.sign.Sign.TheVariants.{OpenBrace, CloseBrace, OpenSquare, CloseSquare, Colon, OpenRound}
+use Rattle.script_grammar.specs.declared.Container.{Container}
 use Rattle.script_grammar.specs.declared.Builtin.{Builtin}
 use Rattle.script_grammar.specs.Trees.{Ex, ListOf, Object, Elem, Elems, ThenElem, Word, Suffix, Suffixes, NoSuffixes, ThenSuffix, Prop, Props, ThenProp}
 use Rattle.script_parser.specs.Steps.{Outcome, Parser, and_then, ◌>>=◌, pure}
 use Rattle.script_parser.specs.Tests.{fixed}
-use Rattle.script_parser.specs.Parser.{expect, elem, elems, props, prop, expr, below, opened, applied, created, from_in, array_by}
+use Rattle.script_parser.specs.Parser.{expect, elem, elems, props, prop, expr, below, opened, applied, creation, created, from_in, array_by}
 use Rattle.script_parser.proofs.Accept.{under}
 use Rattle.script_tree.specs.declared.Expr.{Expr}
 use Rattle.script_tree.specs.declared.Label.{Label}
@@ -95,6 +96,9 @@ valued_at d key = expect Colon >>= λ _. expr (below d) >>= λ e. pure (prop_of 
 -- ---- functions of the language
 unfoldable pub apply_at : ℕ → Builtin → Parser Ex
 apply_at d f ts = opened (below d) (fixed OpenRound) (applied f) ts
+
+unfoldable pub creation_at : ℕ → Container → Parser Ex
+creation_at d c ts = opened (below d) (fixed OpenRound) (creation c) ts
 
 unfoldable pub created_at : ℕ → Parser Ex
 created_at d ts = created (below d) ts

@@ -5,7 +5,7 @@ ghost use Rattle.script_tree.specs.View.{view};
 ghost use Rattle.script_text.specs.declared.method.Arity.TheVariants.{Nothing, Single, Double, UpToTwo, OneOrMore};
 ghost use Rattle.js_source.specs.Reading.{Reads, Forward};
 ghost use Rattle.js_post.specs.Nests.{Nests};
-ghost use Rattle.js_post.specs.Calls.{args_view, args_at, arguments_at};
+ghost use Rattle.js_post.specs.Calls.{args_view, args_at, arguments_at, further_at};
 
 use crate::rules::{Part, Rules};
 use js_source::{Source, Stop};
@@ -115,10 +115,23 @@ impl<F: Fn(Global, Source<'_>, usize, usize, Part) -> Result<(Expr, usize), Stop
         found.push(first)?;
         let mut next = after;
         'more: while self.source.sees(next, Sign::Comma) {
-            let (argument, after) = self.inner(next + 1, Part::Whole)?;
+            let (argument, after) = self.further(next)?;
             found.push(argument)?;
             next = after;
         }
         Ok((Items::from_vec(found), next))
+    }
+
+    /// An argument behind a comma.
+    #[tactic(auto, unfolding(crate::specs::Calls::further_at))]
+    fn further(&self, at: usize) -> Result<(Expr, usize), Stop>
+        requires left { 0 < self.now.depth }
+        requires nests { Nests self.now.depth (F.pre self.now.read) (F.post self.now.read) }
+        ensures is { Reads view (further_at (self.now.depth - 1)) self.now.source.bytes.now self.now.source.tokens.now at result }
+        ensures forward { IfOk result (λ x. at < x.1) }
+    {
+        let at = self.source.expect(at, Sign::Comma)?;
+        let (argument, at) = self.inner(at, Part::Whole)?;
+        Ok((argument, at))
     }
 }

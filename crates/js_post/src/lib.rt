@@ -2,6 +2,7 @@
 #![tactic(auto)]
 
 mod arguments;
+mod builtin;
 mod object;
 mod rules;
 
