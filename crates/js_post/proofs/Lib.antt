@@ -3,3 +3,4 @@ pub mod Builtins
 pub mod Calls
 pub mod Suffixes
 pub mod Props
+pub mod Atoms

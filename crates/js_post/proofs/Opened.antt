@@ -2,7 +2,7 @@
 use Rattle.std.proofs.Common.{◌≡◌, ◌≢◌, ℕ, zero, suc, ◌-◌, true, false, [], ◌∷◌, Option, Some, None, Err, refl, ap, arith}
 use Rattle.script_text.specs.declared.sign.Sign.{Sign}
 use Rattle.script_grammar.specs.Tokens.{Tok, Fixed, Toks}
-use Rattle.script_parser.specs.Steps.{Unexpected, TooNested, Parser, refused, too_deep, first}
+use Rattle.script_parser.specs.Steps.{Unexpected, TooNested, Outcome, Parser, refused, too_deep, first}
 use Rattle.script_parser.specs.Tests.{fixed, is_some, sees}
 use Rattle.script_parser.specs.Parser.{Below, opened, below}
 use Rattle.script_parser.proofs.Tests.{of_fixed}
@@ -46,7 +46,7 @@ unfolding below too_deep
 no_sign s p zero [] e h = refl
 no_sign {A = A} s p zero (t ∷ ts) e h = go (fixed s t) h
   where
-    go : (o : Option (Unit {0})) → is_some o ≡ false → Err {A = A × Toks} (refused o, t ∷ ts) ≡ Err (Unexpected, t ∷ ts)
+    go : (o : Option (Unit {0})) → is_some o ≡ false → ◌≡◌ {A = Outcome A} (Err (refused o, t ∷ ts)) (Err (Unexpected, t ∷ ts))
     go None h = refl
     go (Some u) h = absurd cc
 no_sign s p (suc d) ts e h = absurd (omega (arith, e))

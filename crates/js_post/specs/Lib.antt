@@ -1,3 +1,4 @@
 pub mod Nests
 pub mod Calls
 pub mod Lists
+pub mod Atoms

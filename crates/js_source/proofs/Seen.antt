@@ -344,6 +344,18 @@ unfolding seen_from
 by_kind bytes k [] c h = absurd cc
 by_kind bytes k (t ∷ ts) c h = let same : t.kind ≡ c = cc in (bytes_of bytes t, ap (λ (c : Kind). Some (seen_as (bytes_of bytes t) k c)) same)
 
+pub by_kind_word : (bytes : List ℕ) (k : ℕ) (ts : List Token) (r : Reserved) → Some r ≡ reserved_kind (next_kind ts) → first (seen_from bytes k ts) ≡ Some (Kept r)
+unfolding seen_from
+by_kind_word bytes k [] r h = absurd cc
+by_kind_word bytes k (t ∷ ts) r h = go t.kind h
+  where
+    go : (c : Kind) → Some r ≡ reserved_kind (Some c) → Some (seen_as (bytes_of bytes t) k c) ≡ Some (Kept r)
+    go kind.Name h = absurd cc
+    go (kind.Integer n) h = absurd cc
+    go kind.Text h = absurd cc
+    go (kind.Sign s) h = absurd cc
+    go (kind.Reserved w) h = let same : w ≡ r = cc in ap (λ (r : Reserved). Some (Kept r)) same
+
 integer_made : (n : ℕ) (b : Bool) → made lit_of (Some (if b then Other else Integer n)) ≡ (if b then None else Some (Number n))
 integer_made n true = refl
 integer_made n false = refl
