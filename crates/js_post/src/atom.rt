@@ -34,7 +34,7 @@ enum Form {
     Other,
 }
 
-fn form(word: Reserved) -> Form
+fn begun(word: Reserved) -> Form
     ensures { form_of result ≡ atom_form (Some (Kept word)) }
 {
     match word {
@@ -109,7 +109,7 @@ impl<F: Fn(Global, Source<'_>, usize, usize, Part) -> Result<(Expr, usize), Stop
         ensures is { Reads view (atom_rule (below self.now.depth)) self.now.source.bytes.now self.now.source.tokens.now at result }
         ensures forward { Forward at result }
     {
-        match form(word) {
+        match begun(word) {
             Form::New => self.created(at + 1),
             Form::Original => self.apply(at + 1, Builtin::Original),
             Form::Current => self.apply(at + 1, Builtin::Current),
