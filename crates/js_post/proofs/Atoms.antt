@@ -6,7 +6,10 @@ use Rattle.script_text.specs.declared.word.Reserved.TheVariants as kept
 use Rattle.script_text.specs.declared.token.Token.{Token}
 use Rattle.script_grammar.specs.declared.Builtin.TheVariants as builtin
 use Rattle.script_grammar.specs.Spelling.{keys_word, is_array_word, from_word}
-use Rattle.script_grammar.specs.Tokens.{Tok, Name, Kept, Integer, Text, Fixed, Other, Toks}
+use Rattle.script_text.specs.Lexical.{largest}
+use Rattle.script_text.specs.declared.token.Kind.{Kind}
+use Rattle.script_text.specs.declared.token.Kind.TheVariants as kind
+use Rattle.script_grammar.specs.Tokens.{Tok, Name, Kept, Integer, Text, Fixed, Other, Toks, bytes_of, text_value, as_text, seen_as, seen_from}
 use Rattle.script_grammar.specs.Sources.{toks}
 use Rattle.script_parser.specs.Steps.{Unexpected, TooNested, taken, take as read, first}
 use Rattle.script_parser.specs.Tests.{fixed, name_of, is_some, called, array_of, sees, sees_word, atom_form, RoundForm, ListForm, ObjectForm, VarForm, NewForm, OriginalForm, CurrentForm, DraftForm, KeysForm, ArrayForm, OtherForm}
@@ -18,7 +21,7 @@ use Rattle.js_source.proofs.Seen.{read_some, read_none, word_read, by_kind_word}
 use Rattle.js_source.proofs.Words.{called_read}
 use Rattle.js_post.specs.Lists.{apply_at, created_at, from_at, listed_at, elems_at, objected_at, props_at}
 use Rattle.js_post.specs.Atoms.{keys_word_at, keys_at, array_word_at, array_at}
-use Rattle.std.specs.Prelude.{if◌then◌else◌}
+use Rattle.std.specs.Prelude.{if◌then◌else◌, nat_lt}
 use Rattle.js_post.proofs.Opened.{seen_sign, deep, within, made_sign}
 
 -- ---- atoms
@@ -50,6 +53,7 @@ pub atom_list_deep : (d : ℕ) (ts : Toks) → d ≡ 0 → sees OpenSquare (firs
 atom_list_deep d ts e h = rw (list_form ts h) (deep (fixed OpenSquare) listed d ts tt e (made_sign OpenSquare ts h))
 
 pub atom_list : (d : ℕ) (ts : Toks) → d ≢ 0 → sees OpenSquare (first ts) ≡ true → atom (below d) ts ≡ listed_at (d - 1) ts
+unfolding elems_at
 atom_list d ts e h = rw (list_form ts h) (within (fixed OpenSquare) listed d ts e)
 
 pub atom_object_deep : (d : ℕ) (ts : Toks) → d ≡ 0 → sees OpenBrace (first ts) ≡ true → atom (below d) ts ≡ Err (TooNested, ts)
@@ -162,7 +166,7 @@ no_array : (c : Option Tok) → is_some (made (called is_array_word) c) ≡ fals
 no_array None h k = refl
 no_array (Some (Name at b)) h k = go (Rattle.std.specs.Str.bytes_eq b is_array_word) (Rattle.std.specs.Str.bytes_eq b from_word) h k
   where
-    go : (x y : Bool) → is_some (if x then Some at else None) ≡ false → is_some (if y then Some at else None) ≡ false → (if x then Some (true, at) else (if y then Some (false, at) else None)) ≡ None
+    go : (x y : Bool) → is_some (if x then Some at else None) ≡ false → is_some (if y then Some at else None) ≡ false → if◌then◌else◌ {A = Option (Bool × ℕ)} x (Some (true, at)) (if◌then◌else◌ {A = Option (Bool × ℕ)} y (Some (false, at)) None) ≡ None
     go true y h k = absurd cc
     go false true h k = absurd cc
     go false false h k = refl
@@ -175,3 +179,46 @@ no_array (Some (Fixed s)) h k = refl
 pub array_else : (d : ℕ) (ts : Toks) → called_next is_array_word ts ≡ false → called_next from_word ts ≡ false → array_word_at d ts ≡ Err (Unexpected, ts)
 unfolding array_word_at called_next
 array_else d ts h k = rw (read_none array_of ts (no_array (first ts) h k)) refl
+
+-- ---- what is no word
+NotKept : Option Tok → Type 0
+NotKept (Some (Kept r)) = ⊥
+NotKept _ = Unit {0}
+
+not_kept : (bytes : List ℕ) (k : ℕ) (ts : List Token) → None ≡ reserved_kind (next_kind ts) → NotKept (first (seen_from bytes k ts))
+unfolding NotKept seen_from
+not_kept bytes k [] h = tt
+not_kept bytes k (t ∷ ts) h = go t.kind h
+  where
+    whole : (n : ℕ) (b : Bool) → NotKept (Some (if b then Other else Integer n))
+    whole n true = tt
+    whole n false = tt
+
+    quote : (o : Option (List ℕ)) → NotKept (Some (as_text o))
+    quote None = tt
+    quote (Some v) = tt
+
+    go : (c : Kind) → None ≡ reserved_kind (Some c) → NotKept (Some (seen_as (bytes_of bytes t) k c))
+    go kind.Name h = tt
+    go (kind.Integer n) h = whole n (nat_lt largest n)
+    go kind.Text h = quote (text_value (bytes_of bytes t))
+    go (kind.Sign s) h = tt
+    go (kind.Reserved w) h = absurd cc
+
+other_form : (c : Option Tok) → sees OpenRound c ≡ false → sees OpenSquare c ≡ false → sees OpenBrace c ≡ false → is_some (made name_of c) ≡ false → NotKept c → atom_form c ≡ OtherForm
+unfolding NotKept
+other_form None a b d h k = refl
+other_form (Some (Name at bytes)) a b d h k = absurd cc
+other_form (Some (Kept r)) a b d h k = absurd k
+other_form (Some (Integer n)) a b d h k = refl
+other_form (Some (Text v)) a b d h k = refl
+other_form (Some Other) a b d h k = refl
+other_form (Some (Fixed OpenRound)) a b d h k = absurd cc
+other_form (Some (Fixed OpenSquare)) a b d h k = absurd cc
+other_form (Some (Fixed OpenBrace)) a b d h k = absurd cc
+other_form (Some (Fixed _)) a b d h k = refl
+
+pub atom_other : (d : ℕ) (bytes : List ℕ) (tokens : List Token) (at : ℕ) → sees OpenRound (first (toks bytes tokens at)) ≡ false → sees OpenSquare (first (toks bytes tokens at)) ≡ false → sees OpenBrace (first (toks bytes tokens at)) ≡ false → is_some (made name_of (first (toks bytes tokens at))) ≡ false → None ≡ reserved_kind (next_kind (drop at tokens))
+    → atom (below d) (toks bytes tokens at) ≡ literals (toks bytes tokens at)
+unfolding literals
+atom_other d bytes tokens at a b c h k = rw (other_form (first (toks bytes tokens at)) a b c h (not_kept bytes at (drop at tokens) k)) refl

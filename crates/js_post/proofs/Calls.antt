@@ -27,7 +27,7 @@ use Rattle.js_source.proofs.Seen.{sign_read}
 use Rattle.js_post.specs.Calls.{args_view, args_at, further_at, more_at, arguments_at, word_at, more_before, args_before, onto_args}
 use Rattle.script_tree.specs.declared.Access.{Access}
 use Rattle.script_tree.specs.declared.Access.TheVariants as access
-use Rattle.js_post.specs.Lists.{one_suffix, IsCall}
+use Rattle.js_post.specs.Lists.{one_suffix, IsCall, word_place}
 use Rattle.js_post.proofs.Opened.{deep, within, made_sign}
 
 pub any_start : (d : ℕ) (ts rest : Toks) (e : Expr) → expr (below d) ts ≡ Ok (view e, rest) → onto_args (e ∷ []) (more_at d rest) ≡ args_at d takes.OneOrMore ts
@@ -141,6 +141,10 @@ method_of_word w m false h = absurd cc
 pub call_kept : (m : Method) (r : Reserved) → method_at (Reserve r) ≡ Some m → call_word 0 m ≡ Reserve r
 call_kept m kept.Delete h = let same : method.Delete ≡ m = cc in ap (call_word 0) (sym same)
 call_kept m _ h = absurd cc
+
+pub call_word_is : (w : Word) (m : Method) → method_at w ≡ Some m → call_word (word_place w) m ≡ w
+call_word_is (Named at bytes) m h = call_named at bytes m h
+call_word_is (Reserve r) m h = call_kept m r h
 
 pub call_view : (a : Access) (w : Word) (xs : List Expr) → IsCall a w → one_suffix (a, xs) ≡ Call w (args_view xs)
 call_view (access.Call at m) w xs h = rw h refl

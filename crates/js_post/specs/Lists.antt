@@ -3,7 +3,7 @@ use Rattle.std.specs.Prelude.{◌≡◌, ℕ, Bool, List, [], ◌∷◌, map}
 use Rattle.script_text.specs.declared.sign.Sign.TheVariants.{OpenBrace, CloseBrace, OpenSquare, CloseSquare, Colon, OpenRound}
 use Rattle.script_grammar.specs.declared.Container.{Container}
 use Rattle.script_grammar.specs.declared.Builtin.{Builtin}
-use Rattle.script_grammar.specs.Trees.{Ex, ListOf, Object, Elem, Elems, ThenElem, Word, Suffix, Suffixes, NoSuffixes, ThenSuffix, Prop, Props, ThenProp}
+use Rattle.script_grammar.specs.Trees.{Ex, ListOf, Object, Elem, Elems, ThenElem, Word, Named, Reserve, Suffix, Suffixes, NoSuffixes, ThenSuffix, Prop, Props, ThenProp}
 use Rattle.script_parser.specs.Steps.{Outcome, Parser, and_then, ◌>>=◌, pure}
 use Rattle.script_parser.specs.Tests.{fixed}
 use Rattle.script_parser.specs.Parser.{expect, elem, elems, props, prop, expr, below, opened, applied, creation, created, from_in, array_by}
@@ -57,6 +57,11 @@ onto_suffixes found out = and_then out (λ ss. pure (suffixes_before found ss))
 
 abbrev pub suffixes_view : List (Access × List Expr) → Suffixes
 suffixes_view ss = suffixes_before ss NoSuffixes
+
+-- the number of a name's token
+abbrev pub word_place : Word → ℕ
+word_place (Named at bytes) = at
+word_place (Reserve r) = 0
 
 -- it is the call of the method that this word names
 abbrev pub IsCall : Access → Word → Type 0

@@ -1,10 +1,11 @@
 //! The steps behind what stands alone: members, indices and calls.
 
 ghost use Rattle.std.specs.Prelude.{◌≡◌, ◌<◌, ◌≤◌, ◌-◌, Some, IfOk};
-ghost use Rattle.script_tree.specs.View.{view, word_of as word_view, args_of};
+ghost use Rattle.script_tree.specs.View.{view, word_of as word_view, key_pair};
 ghost use Rattle.script_grammar.specs.Rules.{method_at as spec_method_at};
 ghost use Rattle.script_grammar.specs.Sources.{toks};
-ghost use Rattle.script_grammar.specs.Trees.{Call};
+ghost use Rattle.script_grammar.specs.Trees.{Reserve};
+ghost use Rattle.script_text.specs.Methods.{named_method};
 ghost use Rattle.script_parser.specs.Steps.{first};
 ghost use Rattle.script_parser.specs.Tests.{sees};
 ghost use Rattle.script_parser.specs.Parser.{below, post as post_rule, suffixes as suffixes_rule, suffix as suffix_rule, index as index_rule, dot as dot_rule, method_by};
@@ -13,7 +14,7 @@ ghost use Rattle.script_text.specs.declared.sign.Sign.TheVariants.{OpenRound};
 ghost use Rattle.js_source.specs.Reading.{Reads, Forward};
 ghost use Rattle.js_post.specs.Nests.{Nests};
 ghost use Rattle.js_post.specs.Calls.{word_at};
-ghost use Rattle.js_post.specs.Lists.{suffixes_view, one_suffix};
+ghost use Rattle.js_post.specs.Lists.{suffixes_view, one_suffix, IsCall, word_place};
 
 use crate::rules::{Part, Rules};
 use js_source::{Source, Stop};
@@ -114,7 +115,7 @@ impl<F: Fn(Global, Source<'_>, usize, usize, Part) -> Result<(Expr, usize), Stop
             return Err(Stop::TooNested(at));
         }
         let (arguments, at) = self.arguments(at, method.arity())?;
-        Ok(((call(word, method), arguments), at))
+        Ok(((call(&word, method), arguments), at))
     }
 
     /// The method that this word names, where a bracket comes next.
@@ -140,7 +141,7 @@ fn method_at(word: &Word) -> Option<Method>
 }
 
 fn method_named(name: &NameKey) -> Option<Method>
-    ensures { result ≡ Rattle.script_text.specs.Methods.named_method (Rattle.script_tree.specs.View.key_pair name.now).1 }
+    ensures { result ≡ named_method (key_pair name.now).1 }
 {
     match name {
         NameKey::Text(_, text) => method_of(text.as_str().as_bytes()),
@@ -149,7 +150,7 @@ fn method_named(name: &NameKey) -> Option<Method>
 }
 
 fn method_kept(word: Reserved) -> Option<Method>
-    ensures { result ≡ spec_method_at (Rattle.script_grammar.specs.Trees.Reserve word) }
+    ensures { result ≡ spec_method_at (Reserve word) }
 {
     match word {
         Reserved::Delete => Some(Method::Delete),
@@ -157,16 +158,30 @@ fn method_kept(word: Reserved) -> Option<Method>
     }
 }
 
-/// The call of this method by its word.
-#[tactic(auto, using(crate::proofs::Calls::call_named, crate::proofs::Calls::call_kept))]
-fn call(word: Word, method: Method) -> Access
-    requires { spec_method_at (word_view word) ≡ Some method }
-    ensures { Rattle.js_post.specs.Lists.IsCall result (word_view word) }
+/// The number of a name's token; 0 of a word that is no name.
+fn place(word: &Word) -> usize
+    ensures { result ≡ word_place (word_view word.now) }
 {
-    let at = match word {
-        Word::Name(NameKey::Text(at, _)) => at,
-        Word::Name(NameKey::Long(name)) => name.at,
+    match word {
+        Word::Name(name) => name_place(name),
         Word::Reserved(_) => 0,
-    };
-    Access::Call(at, method)
+    }
+}
+
+fn name_place(name: &NameKey) -> usize
+    ensures { result ≡ (key_pair name.now).0 }
+{
+    match name {
+        NameKey::Text(at, _) => *at,
+        NameKey::Long(name) => name.at,
+    }
+}
+
+/// The call of this method by its word.
+#[tactic(auto, using(crate::proofs::Calls::call_word_is))]
+fn call(word: &Word, method: Method) -> Access
+    requires { spec_method_at (word_view word.now) ≡ Some method }
+    ensures { IsCall result (word_view word.now) }
+{
+    Access::Call(place(word), method)
 }
