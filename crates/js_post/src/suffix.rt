@@ -1,6 +1,6 @@
 //! The steps behind what stands alone: members, indices and calls.
 
-ghost use Rattle.std.specs.Prelude.{◌≡◌, ◌<◌, ◌≤◌, ◌-◌, Some, IfOk};
+ghost use Rattle.std.specs.Prelude.{◌≡◌, ◌<◌, ◌≤◌, ◌-◌, Some, IfOk, IfSome};
 ghost use Rattle.script_tree.specs.View.{view, word_of as word_view, key_pair};
 ghost use Rattle.script_grammar.specs.Rules.{method_at as spec_method_at};
 ghost use Rattle.script_grammar.specs.Sources.{toks};
@@ -120,7 +120,8 @@ impl<F: Fn(Global, Source<'_>, usize, usize, Part) -> Result<(Expr, usize), Stop
 
     /// The method that this word names, where a bracket comes next.
     fn method(&self, at: usize, word: &Word) -> Option<Method>
-        ensures { result ≡ method_by (word_view word.now) (sees OpenRound (first (toks self.now.source.bytes.now self.now.source.tokens.now at))) }
+        ensures is { result ≡ method_by (word_view word.now) (sees OpenRound (first (toks self.now.source.bytes.now self.now.source.tokens.now at))) }
+        ensures named { IfSome result (λ m. spec_method_at (word_view word.now) ≡ Some m) }
     {
         if self.source.sees(at, Sign::OpenRound) {
             method_at(word)
