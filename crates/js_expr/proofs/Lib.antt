@@ -1,4 +1,1 @@
 pub mod Rules
-pub mod Seen
-pub mod Values
-pub mod Props

@@ -2,8 +2,3 @@
 #![tactic(auto)]
 
 mod expr;
-mod source;
-mod text;
-
-pub use expr::{read_expr, read_post};
-pub use source::{Source, Stop};

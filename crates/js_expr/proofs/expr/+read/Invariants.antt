@@ -1,4 +1,0 @@
-use Rattle.js_expr.proofs.expr.+read.Given as goal
-
-abbrev pub decreases-read : goal.decreases-read
-decreases-read l = l.depth
