@@ -25,7 +25,10 @@ pub(crate) struct Operators<'a, F> {
     pub rules: Rules<'a, F>,
 }
 
-impl<F: Fn(Global, Source<'_>, usize, usize, Part) -> Result<(Expr, usize), Stop>> Operators<'_, F> {
+impl<F: Fn(Global, Source<'_>, usize, usize, Part) -> Result<(Expr, usize), Stop>> Operators<
+    '_,
+    F,
+> {
     /// An expression: a chain, or a choice by one.
     #[tactic(auto, using(crate::proofs::Rules::choice_deep, crate::proofs::Rules::choice_in, crate::proofs::Rules::choice_no))]
     pub(crate) fn expr(&self, at: usize) -> Result<(Expr, usize), Stop>
@@ -129,7 +132,10 @@ impl<F: Fn(Global, Source<'_>, usize, usize, Part) -> Result<(Expr, usize), Stop
             return Err(Stop::TooNested(at));
         }
         let (operand, at) = self.rules.inner(at + 1, Part::Operand)?;
-        Ok((Expr::Unary(sign, Boxed::new(self.rules.alloc, operand)?), at))
+        Ok((
+            Expr::Unary(sign, Boxed::new(self.rules.alloc, operand)?),
+            at,
+        ))
     }
 }
 
