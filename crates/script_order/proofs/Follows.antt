@@ -1,14 +1,14 @@
 -- What is judged stands in the text's order.
 use Rattle.std.proofs.Common.{ℕ, List, [], ◌∷◌, ◌++◌, map, Option, Some, None, Ok, Err}
 use Rattle.script_grammar.specs.Tokens.{Tok, Name, Toks}
-use Rattle.script_grammar.specs.Trees.{Ex, Literal, Var, Round, ListOf, Object, Member, Unary, Chain, Choice, Stmt, Block, Empty, IfThen, IfElse, Return, ReturnOf, Throw, ThrowError, Delete, Set, Do, Item, Const, Let, LetBe, Plain, Items, NoItems, ThenItem}
-use Rattle.script_grammar.specs.Spelling.{spell_ex, spell_stmt, spell_item, spell_items}
+use Rattle.script_grammar.specs.Trees.{Ex, Suffix, Target, Place, Part, Stmt, Const, Let, LetBe, Block, Empty, IfThen, IfElse, For, Switch, SwitchElse, Break, Continue, Return, ReturnOf, Throw, ThrowError, Delete, Set, Update, Do, Stmts, NoStmts, ThenStmt, Cases, NoCases, ThenCase}
+use Rattle.script_grammar.specs.Spelling.{spell_ex, spell_suffix, spell_target, spell_stmt, spell_stmts, spell_cases}
 use Rattle.script_names.specs.declared.Cause.{Cause}
 use Rattle.script_names.specs.declared.Binding.{Binding}
 use Rattle.script_names.specs.declared.Binding.TheVariants.{Unset, Variable, Constant}
-use Rattle.script_names.specs.Environments.{Env, enter}
-use Rattle.script_names.specs.Names.{Name as Named, Judged, read, read_as, reads, writes, write_as, declare_as, declares, after, judged, judged_item, judged_items}
-use Rattle.script_order.proofs.Places.{In, none, keep, skip, in_ex}
+use Rattle.script_names.specs.Environments.{Env, bind, enter}
+use Rattle.script_names.specs.Names.{Name as Named, Judged, read, read_as, reads, reads_part, writes, write_as, declare_as, declares, binding, after, head, judged, judged_all, judged_cases}
+use Rattle.script_order.proofs.Places.{In, none, keep, skip, app as both, in_ex, in_suffix}
 
 -- what is judged up to the first fault are names among these tokens, in this order
 pub data Follows : List Judged → Toks → Type 0 where
@@ -62,37 +62,40 @@ all_read env us ts (skip t vs ss a) = pass t _ _ (all_read env vs ss a)
 pub read_ex : (env : Env) (e : Ex) → Follows (reads env e) (spell_ex e)
 read_ex env e = all_read env _ _ (in_ex e)
 
-write_ex : (env : Env) (e : Ex) → Follows (writes env e) (spell_ex e)
-write_ex env (Var at x) = write_one at x (env x) [] [] done
-write_ex env (Literal l) = read_ex env (Literal l)
-write_ex env (Round e) = read_ex env (Round e)
-write_ex env (ListOf es) = read_ex env (ListOf es)
-write_ex env (Object ps) = read_ex env (Object ps)
-write_ex env (Member e s ss) = read_ex env (Member e s ss)
-write_ex env (Unary s e) = read_ex env (Unary s e)
-write_ex env (Chain k a s b ls) = read_ex env (Chain k a s b ls)
-write_ex env (Choice c a b) = read_ex env (Choice c a b)
+read_part : (env : Env) (e : Ex) (s : Suffix) → Follows (reads_part env e s) (spell_ex e ++ spell_suffix s)
+read_part env e s = all_read env _ _ (both (in_ex e) (in_suffix s))
+
+write_to : (env : Env) (t : Target) → Follows (writes env t) (spell_target t)
+write_to env (Place at x) = write_one at x (env x) [] [] done
+write_to env (Part e s) = read_part env e s
 
 mutual
   pub in_stmt : (env : Env) (s : Stmt) → Follows (judged env s) (spell_stmt s)
-  in_stmt env (Block is) = next _ (more (in_items (enter (declares is) env) is) _)
+  in_stmt env (Const at x e) = next _ (declare_one at x (env x) _ _ (next _ (more (read_ex env e) _)))
+  in_stmt env (Let at x) = next _ (declare_one at x (env x) _ _ (nothing _))
+  in_stmt env (LetBe at x e) = next _ (declare_one at x (env x) _ _ (next _ (more (read_ex env e) _)))
+  in_stmt env (Block ss) = next _ (more (in_stmts (enter (declares ss) env) ss) _)
   in_stmt env Empty = nothing _
   in_stmt env (IfThen e s) = next _ (next _ (app (read_ex env e) (next _ (in_stmt env s))))
   in_stmt env (IfElse e s t) = next _ (next _ (app (read_ex env e) (next _ (app (in_stmt env s) (next _ (in_stmt env t))))))
+  in_stmt env (For c at x e s) = next _ (next _ (next _ (declare_one at x (head env x x) _ _ (next _ (app (read_ex (head env x) e) (next _ (in_stmt (bind (head env x) x (binding c at)) s)))))))
+  in_stmt env (Switch e cs) = next _ (next _ (app (read_ex env e) (next _ (next _ (more (in_cases env cs) _)))))
+  in_stmt env (SwitchElse e cs ss ds) = next _ (next _ (app (read_ex env e) (next _ (next _ (app (in_cases env cs) (next _ (next _ (app (in_stmts env ss) (more (in_cases env ds) _)))))))))
+  in_stmt env Break = nothing _
+  in_stmt env Continue = nothing _
   in_stmt env Return = nothing _
   in_stmt env (ReturnOf e) = next _ (more (read_ex env e) _)
   in_stmt env (Throw e) = next _ (more (read_ex env e) _)
   in_stmt env (ThrowError e) = next _ (next _ (next _ (next _ (more (read_ex env e) _))))
-  in_stmt env (Delete e) = next _ (more (read_ex env e) _)
-  in_stmt env (Set t e) = app (write_ex env t) (next _ (more (read_ex env e) _))
+  in_stmt env (Delete e s) = next _ (more (read_part env e s) _)
+  in_stmt env (Set t e) = app (write_to env t) (next _ (more (read_ex env e) _))
+  in_stmt env (Update c t e) = app (write_to env t) (next _ (more (read_ex env e) _))
   in_stmt env (Do e) = more (read_ex env e) _
 
-  in_item : (env : Env) (i : Item) → Follows (judged_item env i) (spell_item i)
-  in_item env (Const at x e) = next _ (declare_one at x (env x) _ _ (next _ (more (read_ex env e) _)))
-  in_item env (Let at x) = next _ (declare_one at x (env x) _ _ (nothing _))
-  in_item env (LetBe at x e) = next _ (declare_one at x (env x) _ _ (next _ (more (read_ex env e) _)))
-  in_item env (Plain s) = in_stmt env s
+  pub in_stmts : (env : Env) (ss : Stmts) → Follows (judged_all env ss) (spell_stmts ss)
+  in_stmts env NoStmts = done
+  in_stmts env (ThenStmt s ss) = app (in_stmt env s) (in_stmts (after env s) ss)
 
-  pub in_items : (env : Env) (is : Items) → Follows (judged_items env is) (spell_items is)
-  in_items env NoItems = done
-  in_items env (ThenItem i is) = app (in_item env i) (in_items (after env i) is)
+  in_cases : (env : Env) (cs : Cases) → Follows (judged_cases env cs) (spell_cases cs)
+  in_cases env NoCases = done
+  in_cases env (ThenCase e ss cs) = next _ (app (read_ex env e) (next _ (app (in_stmts env ss) (in_cases env cs))))

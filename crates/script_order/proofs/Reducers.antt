@@ -9,18 +9,18 @@ use Rattle.script_text.specs.declared.token.Kind.{Kind}
 use Rattle.script_text.specs.declared.token.Kind.TheVariants as kind
 use Rattle.script_text.specs.Lexical.{largest}
 use Rattle.script_grammar.specs.Tokens.{Tok, Name, Kept, Integer, Text, Fixed, Other, Toks, seen_as, seen_from, as_text, text_value, bytes_of}
-use Rattle.script_grammar.specs.Trees.{Params, One, Two, Items, Reducer, Function, Program, NoReducers, ThenReducer}
+use Rattle.script_grammar.specs.Trees.{Params, One, Two, Stmts, Reducer, Function, Program, NoReducers, ThenReducer}
 use Rattle.script_grammar.specs.Spelling.{spell_reducer, spell_program, spell_params}
 use Rattle.script_names.specs.declared.Cause.{Cause}
 use Rattle.script_names.specs.declared.Cause.TheVariants.{Duplicate}
 use Rattle.script_names.specs.declared.Binding.TheVariants.{Variable}
 use Rattle.script_names.specs.Environments.{Env, empty, bind, enter}
-use Rattle.script_names.specs.Names.{Judged, onto, gathered, parameters, scope_of, judged_items, judged_params, judged_body, judged_name, names_in, names_behind, names_of, reducer_name}
+use Rattle.script_names.specs.Names.{Judged, onto, gathered, parameters, scope_of, judged_all, judged_params, judged_body, judged_name, names_in, names_behind, names_of, reducer_name}
 use Rattle.script_names.specs.Scripts.{IsScript}
 use Rattle.script_names.specs.Slots.{declarations, place, slots}
 use Rattle.js_slots.specs.Numbers.{slot_at}
 use Rattle.script_order.specs.Order.{Above, AllAscend, Numbered, AllNumbered}
-use Rattle.script_order.proofs.Follows.{Follows, done, good, bad, pass, more, next, declare_one, in_items}
+use Rattle.script_order.proofs.Follows.{Follows, done, good, bad, pass, more, next, declare_one, in_stmts}
 
 -- ---- tokens know their numbers
 abbrev Counted : ℕ → Toks → Type 0
@@ -94,24 +94,24 @@ above (bad f js ts) k h found g = absurd cc
 above (pass t js ts a) k h found g = lower k (k + 1) found (omega arith) (above a (k + 1) (tail_counted t k ts h) found g)
 
 -- ---- reducers
-in_body : (env : Env) (ps : Params) (is : Items) (ts : Toks) → ((e : Env) → Follows (judged_items e is) ts) → Follows (judged_params env (parameters ps) is) (spell_params ps ++ ts)
-in_body env (One at x) is ts h = declare_one at x (env x) _ _ (h (bind env x (Variable at)))
-in_body env (Two at x at' x') is ts h = declare_one at x (env x) _ _ (next _ (declare_one at' x' (bind env x (Variable at) x') _ _ (h (bind (bind env x (Variable at)) x' (Variable at')))))
+in_body : (env : Env) (ps : Params) (ss : Stmts) (ts : Toks) → ((e : Env) → Follows (judged_all e ss) ts) → Follows (judged_params env (parameters ps) ss) (spell_params ps ++ ts)
+in_body env (One at x) ss ts h = declare_one at x (env x) _ _ (h (bind env x (Variable at)))
+in_body env (Two at x at' x') ss ts h = declare_one at x (env x) _ _ (next _ (declare_one at' x' (bind env x (Variable at) x') _ _ (h (bind (bind env x (Variable at)) x' (Variable at')))))
 
 judged_whole : List (List ℕ) → Reducer → List Judged
-judged_whole before (Function at x ps is) = judged_name before (at, x) ++ judged_body ps is
+judged_whole before (Function at x ps ss) = judged_name before (at, x) ++ judged_body ps ss
 
 in_reducer : (before : List (List ℕ)) (r : Reducer) → Follows (judged_whole before r) (spell_reducer r)
 unfolding judged_whole
-in_reducer before (Function at x ps is) = by (list_any (bytes_eq x) before)
+in_reducer before (Function at x ps ss) = by (list_any (bytes_eq x) before)
   where
-    by : (b : Bool) → Follows ((if b then Err (Duplicate, at) ∷ [] else []) ++ judged_body ps is) (spell_reducer (Function at x ps is))
+    by : (b : Bool) → Follows ((if b then Err (Duplicate, at) ∷ [] else []) ++ judged_body ps ss) (spell_reducer (Function at x ps ss))
     by true = bad _ _ _
-    by false = next _ (next _ (next _ (in_body (enter (scope_of ps is) empty) ps is _ (λ e. next _ (next _ (more (in_items e is) _))))))
+    by false = next _ (next _ (next _ (in_body (enter (scope_of ps ss) empty) ps ss _ (λ e. next _ (next _ (more (in_stmts e ss) _))))))
 
 reducer_ascends : (before : List (List ℕ)) (r : Reducer) (k : ℕ) → Counted k (spell_reducer r) → (found : List (ℕ × ℕ)) → names_in before r ≡ Ok found → Above 0 found
 unfolding judged_whole
-reducer_ascends before (Function at x ps is) k h found g = lower 0 k found (omega arith) (above (in_reducer before (Function at x ps is)) k h found g)
+reducer_ascends before (Function at x ps ss) k h found g = lower 0 k found (omega arith) (above (in_reducer before (Function at x ps ss)) k h found g)
 
 onto_all : (a : Result (List (ℕ × ℕ)) (Cause × ℕ)) (g : Result (List (List (ℕ × ℕ))) (Cause × ℕ)) (found : List (List (ℕ × ℕ))) → onto a g ≡ Ok found → (f : List (ℕ × ℕ)) × (fs : List (List (ℕ × ℕ))) × (a ≡ Ok f) × (g ≡ Ok fs) × (found ≡ f ∷ fs)
 onto_all (Ok f) (Ok fs) found h = (f, fs, refl, refl, cc)
