@@ -1,7 +1,9 @@
 -- What each syntax tree stands for, by its variant.
 use Rattle.std.proofs.Common.{◌≡◌, ℕ, ℤ, Bool, List, sym, ap, ◌∙◌, map}
 use Rattle.script_text.specs.declared.sign.Sign.{Sign}
-use Rattle.script_grammar.specs.Trees.{Number, Quote, True, False, Null, Undefined, Ex, Literal, Var, Round, ListOf, Object, Unary, Choice}
+use Rattle.script_grammar.specs.declared.Container.{Container}
+use Rattle.script_grammar.specs.declared.Builtin.{Builtin}
+use Rattle.script_grammar.specs.Trees.{Number, Quote, True, False, Null, Undefined, Ex, Literal, Var, Round, ListOf, Object, New, Apply, FromKeys, Unary, Choice}
 use Rattle.script_tree.specs.declared.Name.{Name}
 use Rattle.script_tree.specs.declared.Label.{Label}
 use Rattle.script_tree.specs.declared.Access.{Access}
@@ -20,11 +22,20 @@ view_member a ls = ap view (sym (ex.rolls-Member a ls)) ∙ fold-roll-Expr Ex vi
 pub view_round : (e : Expr) → view (ex.Round e) ≡ Round (view e)
 view_round e = ap view (sym (ex.rolls-Round e)) ∙ fold-roll-Expr Ex view_step (Expr-F.Round e)
 
-pub view_list : (es : List Expr) (c : Bool) → view (ex.List es c) ≡ ListOf (elems_of (map view es) c)
+pub view_list : (es : List (Bool × Expr)) (c : Bool) → view (ex.List es c) ≡ ListOf (elems_of (map (λ (e : Bool × Expr). (e.0, view e.1)) es) c)
 view_list es c = ap view (sym (ex.rolls-List es c)) ∙ fold-roll-Expr Ex view_step (Expr-F.List es c)
 
-pub view_object : (ps : List (Label × Expr)) (c : Bool) → view (ex.Object ps c) ≡ Object (props_of (map (λ (p : Label × Expr). (p.0, view p.1)) ps) c)
+pub view_object : (ps : List (Label × List Expr)) (c : Bool) → view (ex.Object ps c) ≡ Object (props_of (map (λ (p : Label × List Expr). (p.0, map view p.1)) ps) c)
 view_object ps c = ap view (sym (ex.rolls-Object ps c)) ∙ fold-roll-Expr Ex view_step (Expr-F.Object ps c)
+
+pub view_new : (c : Container) → view (ex.New c) ≡ New c
+view_new c = ap view (sym (ex.rolls-New c)) ∙ fold-roll-Expr Ex view_step (Expr-F.New c)
+
+pub view_apply : (f : Builtin) (e : Expr) → view (ex.Apply f e) ≡ Apply f (view e)
+view_apply f e = ap view (sym (ex.rolls-Apply f e)) ∙ fold-roll-Expr Ex view_step (Expr-F.Apply f e)
+
+pub view_from_keys : (at : ℕ) (e : Expr) (k : ℕ) → view (ex.FromKeys at e k) ≡ FromKeys at (view e) k
+view_from_keys at e k = ap view (sym (ex.rolls-FromKeys at e k)) ∙ fold-roll-Expr Ex view_step (Expr-F.FromKeys at e k)
 
 pub view_unary : (s : Sign) (e : Expr) → view (ex.Unary s e) ≡ Unary s (view e)
 view_unary s e = ap view (sym (ex.rolls-Unary s e)) ∙ fold-roll-Expr Ex view_step (Expr-F.Unary s e)
