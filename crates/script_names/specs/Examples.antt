@@ -66,7 +66,7 @@ unknown_in_bytes : NameFaultAt source tokens UnknownName 27
 unfolding names_of seen_from
 unknown_in_bytes = record {
   program = ThenReducer (Function 1 (codes "f") (One 3 (codes "state")) (all (ReturnOf (Var 7 x) ∷ []))) NoReducers;
-  spelled = record { spelled = refl; right = tt; levels = λ n. refl };
+  spelled = record { spelled = refl; right = ((tt, tt), tt); levels = λ n. refl };
   token = 7;
   first = refl;
   begins = refl;

@@ -1,6 +1,6 @@
 use Rattle.std.proofs.Common.{◌≡◌, ◌≤◌, take, drop, length}
-use Rattle.js_names.specs.Scopes.{env_of, back}
-use Rattle.js_names.proofs.scopes.Scopes.leave.Given as goal
+use Rattle.js_uses.specs.Scopes.{env_of, back}
+use Rattle.js_uses.proofs.scopes.Scopes.leave.Given as goal
 
 abbrev pub invariant-undo : goal.invariant-undo
 invariant-undo l = record {

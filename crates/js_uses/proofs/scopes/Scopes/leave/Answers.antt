@@ -1,8 +1,8 @@
 use Rattle.std.proofs.Common.{◌≡◌, ◌+◌, ◌<◌, length, arith, ◌∙◌, ap}
 use Rattle.std.proofs.lemmas.List.{length_push}
-use Rattle.js_names.proofs.Trail.{undo_one, keep_one, all_undone}
-use Rattle.js_names.specs.Scopes.{Entry, env_of}
-use Rattle.js_names.proofs.scopes.Scopes.leave.Goals as goal
+use Rattle.js_uses.proofs.Trail.{undo_one, keep_one, all_undone}
+use Rattle.js_uses.specs.Scopes.{Entry, env_of}
+use Rattle.js_uses.proofs.scopes.Scopes.leave.Goals as goal
 
 pub undo-preserved : goal.undo-preserved
 undo-preserved c =

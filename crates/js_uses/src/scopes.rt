@@ -8,7 +8,7 @@ use std::collections::BTreeMap;
 
 /// What the names in force stand for. What a binding hides is kept, so that the end of a scope can bring it back.
 #[derive(Drop)]
-pub(crate) struct Scopes<'a> {
+pub struct Scopes<'a> {
     bound: BTreeMap<&'a [u8], Binding>,
     /// Each name that was bound, with what it stood for before.
     trail: Vec<(&'a [u8], Option<Binding>)>,
@@ -17,10 +17,10 @@ pub(crate) struct Scopes<'a> {
 impl<'a> Scopes<'a> {
     ghost use Rattle.std.specs.Prelude.{take, drop, OnOk};
     ghost use Rattle.script_names.specs.Environments.{empty, bind};
-    ghost use Rattle.js_names.specs.Scopes.{env_of, put, back, Adds};
+    ghost use Rattle.js_uses.specs.Scopes.{env_of, put, back, Adds};
 
     /// No name stands for anything.
-    pub(crate) fn new(alloc: Global) -> Scopes<'a>
+    pub fn new(alloc: Global) -> Scopes<'a>
         ensures { env_of result ≡ empty }
     {
         Scopes {
@@ -30,7 +30,7 @@ impl<'a> Scopes<'a> {
     }
 
     /// What the name stands for.
-    pub(crate) fn bound(&self, name: &[u8]) -> Option<Binding>
+    pub fn bound(&self, name: &[u8]) -> Option<Binding>
         ensures { result ≡ env_of self.now name.now }
     {
         self.bound.get(name).copied()
@@ -53,7 +53,7 @@ impl<'a> Scopes<'a> {
     }
 
     /// Binds a name.
-    pub(crate) fn bind(&mut self, name: &'a [u8], binding: Binding) -> Result<(), AllocError>
+    pub fn bind(&mut self, name: &'a [u8], binding: Binding) -> Result<(), AllocError>
         ensures env { OnOk result (env_of self.new ≡ bind (env_of self.old) name.now binding) }
         ensures adds { OnOk result (Adds self.old self.new) }
     {
@@ -64,14 +64,14 @@ impl<'a> Scopes<'a> {
     }
 
     /// Where a scope begins, to be handed to `leave` where it ends.
-    pub(crate) fn mark(&self) -> usize
+    pub fn mark(&self) -> usize
         ensures { result ≡ length self.now.trail.items }
     {
         self.trail.len()
     }
 
     /// Where a scope ends that began at this mark: each name stands for what it stood for there.
-    pub(crate) fn leave(&mut self, mark: usize) -> Result<(), AllocError>
+    pub fn leave(&mut self, mark: usize) -> Result<(), AllocError>
         requires { mark ≤ length self.old.trail.items }
         ensures env { OnOk result (env_of self.new ≡ back (drop mark self.old.trail.items) (env_of self.old)) }
         ensures trail { OnOk result (self.new.trail.items ≡ take mark self.old.trail.items) }

@@ -1,7 +1,7 @@
 use Rattle.std.proofs.Common.{[], ◌∷◌, ◌++◌, Some, ap, ◌∙◌}
-use Rattle.js_names.specs.Scopes.{env_of}
-use Rattle.js_names.proofs.Trail.{put_back}
-use Rattle.js_names.proofs.scopes.Scopes.bind.Goals as goal
+use Rattle.js_uses.specs.Scopes.{env_of}
+use Rattle.js_uses.proofs.Trail.{put_back}
+use Rattle.js_uses.proofs.scopes.Scopes.bind.Goals as goal
 
 pub returns-clause-adds : goal.returns-clause-adds
 returns-clause-adds c = record {

@@ -7,7 +7,7 @@ use Rattle.std.specs.BTreeMap.{BTreeMap, get_by}
 use denote.Ref.{Bor}
 use Rattle.script_names.specs.declared.Binding.{Binding}
 use Rattle.script_names.specs.Environments.{Env}
-use Rattle.js_names.specs.declared.scopes.Scopes.{Scopes}
+use Rattle.js_uses.specs.declared.scopes.Scopes.{Scopes}
 
 abbrev pub Map : Type 0
 Map = BTreeMap (Bor (List ℕ)) Binding

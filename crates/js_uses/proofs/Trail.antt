@@ -11,7 +11,7 @@ use Rattle.std.proofs.lemmas.Slice.Eq.{bytes_eq-Decides}
 use Rattle.std.proofs.lemmas.List.{drop-append-le, take-append-le, length_push, drop_all}
 use Rattle.script_names.specs.declared.Binding.{Binding}
 use Rattle.script_names.specs.Environments.{Env}
-use Rattle.js_names.specs.Scopes.{Map, Entry, env_in, put, back}
+use Rattle.js_uses.specs.Scopes.{Map, Entry, env_in, put, back}
 
 -- the map was changed at one key
 abbrev pub Changed : Map → Map → List ℕ → Option Binding → Type 0

@@ -1,6 +1,6 @@
 use Rattle.std.proofs.Common.{Some, None}
-use Rattle.js_names.proofs.Trail.{changed}
-use Rattle.js_names.proofs.scopes.Scopes.put.Goals as goal
+use Rattle.js_uses.proofs.Trail.{changed}
+use Rattle.js_uses.proofs.scopes.Scopes.put.Goals as goal
 
 pub returns-in_ok-insert-in-Some-clause-bound : goal.returns-in_ok-insert-in-Some-clause-bound
 returns-in_ok-insert-in-Some-clause-bound c =

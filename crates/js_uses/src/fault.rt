@@ -17,7 +17,7 @@ pub enum NameFault {
 
 impl From<AllocError> for NameFault {
     ghost use Rattle.std.specs.Prelude.{◌≡◌};
-    ghost use Rattle.js_names.specs.declared.fault.NameFault.TheVariants as fault;
+    ghost use Rattle.js_uses.specs.declared.fault.NameFault.TheVariants as fault;
 
     ghost from_gives = { λ _ e. e ≡ fault.Memory };
 
@@ -28,7 +28,7 @@ impl From<AllocError> for NameFault {
 
 impl<T: Drop> From<AllocFailed<T>> for NameFault {
     ghost use Rattle.std.specs.Prelude.{◌≡◌};
-    ghost use Rattle.js_names.specs.declared.fault.NameFault.TheVariants as fault;
+    ghost use Rattle.js_uses.specs.declared.fault.NameFault.TheVariants as fault;
 
     ghost from_gives = { λ _ e. e ≡ fault.Memory };
 
