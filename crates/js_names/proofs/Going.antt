@@ -10,17 +10,17 @@ use Rattle.script_tree.specs.declared.Expr.{Expr}
 use Rattle.script_tree.specs.declared.Expr.TheVariants as ex
 use Rattle.script_tree.specs.declared.Stmt.{Stmt}
 use Rattle.script_tree.specs.declared.Stmt.TheVariants as st
-use Rattle.script_tree.specs.View.{view, item_view, items_of, inner_of, throw_of}
+use Rattle.script_tree.specs.View.{view, stmt_view, stmts_of, inner_of, throw_of}
 use Rattle.script_tree.proofs.Views.{view_name, view_round, view_member, view_unary, view_chain, view_choice}
 use Rattle.script_names.specs.Environments.{Env, bind, enter}
 use Rattle.script_names.specs.declared.Binding.TheVariants.{Unset}
 use Rattle.script_names.specs.Names.{Judged, reads, writes, write_as, declare, declares, after, judged, judged_item, judged_items}
 use Rattle.js_names.specs.Judging.{Found, Judges, so_far, declared_name, all_judged}
-use Rattle.js_names.specs.declared.scopes.Scopes.{Scopes}
-use Rattle.js_names.specs.Scopes.{Adds, back, env_of}
-use Rattle.js_names.proofs.Trail.{back_append}
-use Rattle.js_names.proofs.Reading.{judges_as, judges_stop, judges_exit, judged_first, judges_moved}
-use Rattle.js_names.specs.declared.fault.NameFault.{NameFault}
+use Rattle.js_uses.specs.declared.scopes.Scopes.{Scopes}
+use Rattle.js_uses.specs.Scopes.{Adds, back, env_of}
+use Rattle.js_uses.proofs.Trail.{back_append}
+use Rattle.js_uses.proofs.Reading.{judges_as, judges_stop, judges_exit, judged_first, judges_moved}
+use Rattle.js_uses.specs.declared.fault.NameFault.{NameFault}
 use Rattle.script_names.specs.declared.Cause.{Cause}
 use Rattle.script_tree.proofs.Statements.{view_const, view_block, view_throw, view_if_then, view_if_else}
 
@@ -58,22 +58,22 @@ abbrev declares_first : Option (List ℕ) → List (List ℕ) → List (List ℕ
 declares_first None rest = rest
 declares_first (Some x) rest = x ∷ rest
 
-declares_item : (i : Item) (is : List Item) → declares (items_of (i ∷ is)) ≡ declares_first (declared_name i) (declares (items_of is))
+declares_item : (i : Item) (is : List Item) → declares (stmts_of (i ∷ is)) ≡ declares_first (declared_name i) (declares (stmts_of is))
 declares_item (Const at x e) is = refl
 declares_item (Let at x) is = refl
 declares_item (LetBe at x e) is = refl
 declares_item (Plain s) is = refl
 
 abbrev pub names_at : List Stmt → List (List ℕ)
-names_at xs = declares (items_of (map item_view xs))
+names_at xs = declares (stmts_of (map stmt_view xs))
 
-names_next : (xs : List Stmt) (i : ℕ) (x : Stmt) → i < length xs → x ≡ get_or xs i x → names_at (drop i xs) ≡ declares_first (declared_name (item_view x)) (names_at (drop (i + 1) xs))
-names_next xs i x h e = at_drop_more names_at xs i x h ∙ declares_item (item_view (get_or xs i x)) (map item_view (drop (i + 1) xs)) ∙ ap (λ y. declares_first (declared_name (item_view y)) (names_at (drop (i + 1) xs))) (sym e)
+names_next : (xs : List Stmt) (i : ℕ) (x : Stmt) → i < length xs → x ≡ get_or xs i x → names_at (drop i xs) ≡ declares_first (declared_name (stmt_view x)) (names_at (drop (i + 1) xs))
+names_next xs i x h e = at_drop_more names_at xs i x h ∙ declares_item (stmt_view (get_or xs i x)) (map stmt_view (drop (i + 1) xs)) ∙ ap (λ y. declares_first (declared_name (stmt_view y)) (names_at (drop (i + 1) xs))) (sym e)
 
-pub enter_none : (xs : List Stmt) (i : ℕ) (x : Stmt) → i < length xs → x ≡ get_or xs i x → None ≡ declared_name (item_view x) → (env : Env) → enter (names_at (drop (i + 1) xs)) env ≡ enter (names_at (drop i xs)) env
+pub enter_none : (xs : List Stmt) (i : ℕ) (x : Stmt) → i < length xs → x ≡ get_or xs i x → None ≡ declared_name (stmt_view x) → (env : Env) → enter (names_at (drop (i + 1) xs)) env ≡ enter (names_at (drop i xs)) env
 enter_none xs i x h e n env = sym (ap (λ ns. enter ns env) (names_next xs i x h e ∙ ap (λ d. declares_first d (names_at (drop (i + 1) xs))) (sym n)))
 
-pub enter_some : (xs : List Stmt) (i : ℕ) (x : Stmt) → i < length xs → x ≡ get_or xs i x → (n : List ℕ) → Some n ≡ declared_name (item_view x) → (env new : Env) → new ≡ bind env n Unset → enter (names_at (drop (i + 1) xs)) new ≡ enter (names_at (drop i xs)) env
+pub enter_some : (xs : List Stmt) (i : ℕ) (x : Stmt) → i < length xs → x ≡ get_or xs i x → (n : List ℕ) → Some n ≡ declared_name (stmt_view x) → (env new : Env) → new ≡ bind env n Unset → enter (names_at (drop (i + 1) xs)) new ≡ enter (names_at (drop i xs)) env
 enter_some xs i x h e n s env new b = ap (enter (names_at (drop (i + 1) xs))) b ∙ sym (ap (λ ns. enter ns env) (names_next xs i x h e ∙ ap (λ d. declares_first d (names_at (drop (i + 1) xs))) (sym s)))
 
 -- ---- bindings that are added
@@ -99,43 +99,43 @@ left_adds s m t k a e h g =
     record { more = []; grown = g ∙ front ∙ sym (append-nil s.trail.items); undone = left s m t k a e h }
 
 -- ---- statements by their variants
-pub items_are : (env : Env) (xs : List Stmt) → judged_items env (items_of (map item_view xs)) ≡ all_judged env xs
+pub items_are : (env : Env) (xs : List Stmt) → judged_items env (stmts_of (map stmt_view xs)) ≡ all_judged env xs
 items_are env [] = refl
-items_are env (x ∷ xs) = ap (λ js. judged_item env (item_view x) ++ js) (items_are (after env (item_view x)) xs)
+items_are env (x ∷ xs) = ap (λ js. judged_item env (stmt_view x) ++ js) (items_are (after env (stmt_view x)) xs)
 
-pub in_const : (env : Env) (s : Stmt) (n : Name) (e : Expr) → s ≡ st.Const n e → judged_item env (item_view s) ≡ declare env (n.at, n.text) ∷ reads env (view e)
-in_const env s n e h = ap (λ s. judged_item env (item_view s)) h ∙ ap (judged_item env) (view_const n e)
+pub in_const : (env : Env) (s : Stmt) (n : Name) (e : Expr) → s ≡ st.Const n e → judged_item env (stmt_view s) ≡ declare env (n.at, n.text) ∷ reads env (view e)
+in_const env s n e h = ap (λ s. judged_item env (stmt_view s)) h ∙ ap (judged_item env) (view_const n e)
 
-pub in_block : (env : Env) (s : Stmt) (is xs : List Stmt) → s ≡ st.Block is → xs ≡ is → judged_item env (item_view s) ≡ all_judged (enter (names_at xs) env) xs
-in_block env s is xs h e = ap (λ s. judged_item env (item_view s)) h ∙ ap (judged_item env) (view_block is) ∙ items_are (enter (names_at is) env) is ∙ sym (ap (λ xs. all_judged (enter (names_at xs) env) xs) e)
+pub in_block : (env : Env) (s : Stmt) (is xs : List Stmt) → s ≡ st.Block is → xs ≡ is → judged_item env (stmt_view s) ≡ all_judged (enter (names_at xs) env) xs
+in_block env s is xs h e = ap (λ s. judged_item env (stmt_view s)) h ∙ ap (judged_item env) (view_block is) ∙ items_are (enter (names_at is) env) is ∙ sym (ap (λ xs. all_judged (enter (names_at xs) env) xs) e)
 
 throws : (env : Env) (e : Ex) (b : Bool) → judged env (throw_of e b) ≡ reads env e
 throws env e true = refl
 throws env e false = refl
 
-pub in_throw : (env : Env) (s : Stmt) (e : Expr) (b : Bool) → s ≡ st.Throw e b → judged_item env (item_view s) ≡ reads env (view e)
-in_throw env s e b h = ap (λ s. judged_item env (item_view s)) h ∙ ap (judged_item env) (view_throw e b) ∙ throws env (view e) b
+pub in_throw : (env : Env) (s : Stmt) (e : Expr) (b : Bool) → s ≡ st.Throw e b → judged_item env (stmt_view s) ≡ reads env (view e)
+in_throw env s e b h = ap (λ s. judged_item env (stmt_view s)) h ∙ ap (judged_item env) (view_throw e b) ∙ throws env (view e) b
 
 abbrev pub inner_judged : Env → Stmt → List Judged
-inner_judged env s = judged env (inner_of (item_view s))
+inner_judged env s = judged env (inner_of (stmt_view s))
 
 abbrev pub other_judged : Env → Option Stmt → List Judged
 other_judged env None = []
 other_judged env (Some s) = inner_judged env s
 
-pub in_if : (env : Env) (s : Stmt) (e : Expr) (t u : Stmt) (o : Option Stmt) → s ≡ st.If e t o → u ≡ t → judged_item env (item_view s) ≡ reads env (view e) ++ (inner_judged env u ++ other_judged env o)
-in_if env s e t u None h i = rw i (ap (λ s. judged_item env (item_view s)) h ∙ ap (judged_item env) (view_if_then e t) ∙ sym (ap (λ js. reads env (view e) ++ js) (append-nil (inner_judged env t))))
-in_if env s e t u (Some v) h i = rw i (ap (λ s. judged_item env (item_view s)) h ∙ ap (judged_item env) (view_if_else e t v))
+pub in_if : (env : Env) (s : Stmt) (e : Expr) (t u : Stmt) (o : Option Stmt) → s ≡ st.If e t o → u ≡ t → judged_item env (stmt_view s) ≡ reads env (view e) ++ (inner_judged env u ++ other_judged env o)
+in_if env s e t u None h i = rw i (ap (λ s. judged_item env (stmt_view s)) h ∙ ap (judged_item env) (view_if_then e t) ∙ sym (ap (λ js. reads env (view e) ++ js) (append-nil (inner_judged env t))))
+in_if env s e t u (Some v) h i = rw i (ap (λ s. judged_item env (stmt_view s)) h ∙ ap (judged_item env) (view_if_else e t v))
 
-all_next : (env : Env) (xs : List Stmt) (i : ℕ) (x : Stmt) → i < length xs → x ≡ get_or xs i x → all_judged env (drop i xs) ≡ judged_item env (item_view x) ++ all_judged (after env (item_view x)) (drop (i + 1) xs)
-all_next env xs i x h e = at_drop_more (all_judged env) xs i x h ∙ ap (λ y. judged_item env (item_view y) ++ all_judged (after env (item_view y)) (drop (i + 1) xs)) (sym e)
+all_next : (env : Env) (xs : List Stmt) (i : ℕ) (x : Stmt) → i < length xs → x ≡ get_or xs i x → all_judged env (drop i xs) ≡ judged_item env (stmt_view x) ++ all_judged (after env (stmt_view x)) (drop (i + 1) xs)
+all_next env xs i x h e = at_drop_more (all_judged env) xs i x h ∙ ap (λ y. judged_item env (stmt_view y) ++ all_judged (after env (stmt_view y)) (drop (i + 1) xs)) (sym e)
 
-pub items_on : (xs : List Stmt) (i : ℕ) (x : Stmt) → i < length xs → x ≡ get_or xs i x → (env new : Env) → new ≡ after env (item_view x) → (a b : Found) (g : Result Found (Cause × ℕ)) → so_far a (judged_item env (item_view x)) ≡ Ok b → so_far a (all_judged env (drop i xs)) ≡ g → so_far b (all_judged new (drop (i + 1) xs)) ≡ g
+pub items_on : (xs : List Stmt) (i : ℕ) (x : Stmt) → i < length xs → x ≡ get_or xs i x → (env new : Env) → new ≡ after env (stmt_view x) → (a b : Found) (g : Result Found (Cause × ℕ)) → so_far a (judged_item env (stmt_view x)) ≡ Ok b → so_far a (all_judged env (drop i xs)) ≡ g → so_far b (all_judged new (drop (i + 1) xs)) ≡ g
 items_on xs i x h e env new n a b g ok inv =
-    let rest = all_judged (after env (item_view x)) (drop (i + 1) xs) in
-    ap (λ new. so_far b (all_judged new (drop (i + 1) xs))) n ∙ sym (judged_first a b (judged_item env (item_view x)) rest ok) ∙ sym (ap (so_far a) (all_next env xs i x h e)) ∙ inv
+    let rest = all_judged (after env (stmt_view x)) (drop (i + 1) xs) in
+    ap (λ new. so_far b (all_judged new (drop (i + 1) xs))) n ∙ sym (judged_first a b (judged_item env (stmt_view x)) rest ok) ∙ sym (ap (so_far a) (all_next env xs i x h e)) ∙ inv
 
-pub items_exit : (xs : List Stmt) (i : ℕ) (x : Stmt) → i < length xs → x ≡ get_or xs i x → (first env : Env) (s a b c : Found) (f : NameFault) (r : Result (Unit {0}) NameFault) → (y : NameFault) × (r ≡ Err y) × (y ≡ f) → Judges a (judged_item env (item_view x)) (Err f) b → so_far a (all_judged env (drop i xs)) ≡ so_far s (all_judged first xs) → Judges s (all_judged first xs) r c
+pub items_exit : (xs : List Stmt) (i : ℕ) (x : Stmt) → i < length xs → x ≡ get_or xs i x → (first env : Env) (s a b c : Found) (f : NameFault) (r : Result (Unit {0}) NameFault) → (y : NameFault) × (r ≡ Err y) × (y ≡ f) → Judges a (judged_item env (stmt_view x)) (Err f) b → so_far a (all_judged env (drop i xs)) ≡ so_far s (all_judged first xs) → Judges s (all_judged first xs) r c
 items_exit xs i x h e first env s a b c f r p j inv =
-    let rest = all_judged (after env (item_view x)) (drop (i + 1) xs) in
-    judges_exit s b c (all_judged first xs) f r (p.1 ∙ ap Err p.2) (judges_moved a s b (all_judged env (drop i xs)) (all_judged first xs) f inv (judges_as a b (all_judged env (drop i xs)) (judged_item env (item_view x) ++ rest) (Err f) (all_next env xs i x h e) (judges_stop a b b (judged_item env (item_view x)) rest f j)))
+    let rest = all_judged (after env (stmt_view x)) (drop (i + 1) xs) in
+    judges_exit s b c (all_judged first xs) f r (p.1 ∙ ap Err p.2) (judges_moved a s b (all_judged env (drop i xs)) (all_judged first xs) f inv (judges_as a b (all_judged env (drop i xs)) (judged_item env (stmt_view x) ++ rest) (Err f) (all_next env xs i x h e) (judges_stop a b b (judged_item env (stmt_view x)) rest f j)))

@@ -1,4 +1,3 @@
 pub mod Index
 pub mod Judging
 pub mod Program
-pub mod Scopes

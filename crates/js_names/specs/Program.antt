@@ -7,8 +7,8 @@ use Rattle.script_names.specs.declared.Cause.{Cause}
 use Rattle.script_names.specs.declared.Binding.TheVariants.{Variable}
 use Rattle.script_names.specs.Environments.{Env, bind}
 use Rattle.script_names.specs.Names.{Judged, declare}
-use Rattle.js_names.specs.declared.fault.NameFault.{NameFault}
-use Rattle.js_names.specs.declared.fault.NameFault.TheVariants as fault
+use Rattle.js_uses.specs.declared.fault.NameFault.{NameFault}
+use Rattle.js_uses.specs.declared.fault.NameFault.TheVariants as fault
 use Rattle.js_names.specs.declared.index.Index.{Index}
 use Rattle.js_names.specs.Index.{number_in}
 

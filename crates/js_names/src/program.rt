@@ -1,17 +1,17 @@
 //! The names of a program.
 
 ghost use Rattle.std.specs.Prelude.{◌≡◌, ℕ, List, Ok, OnOk, IfOk, MatchResult, map};
-ghost use Rattle.script_tree.specs.View.{item_view, items_of, params_of, reducer_of, program_of};
+ghost use Rattle.script_tree.specs.View.{stmt_view, stmts_of, params_of, reducer_of, program_of};
 ghost use Rattle.script_names.specs.Environments.{enter};
 ghost use Rattle.script_names.specs.Names.{scope_of, judged_body, gathered, names_in, names_of, reducer_named};
-ghost use Rattle.js_names.specs.Scopes.{env_of};
-ghost use Rattle.js_names.specs.Judging.{Judges};
+ghost use Rattle.js_uses.specs.Scopes.{env_of};
+ghost use Rattle.js_uses.specs.Judging.{Judges};
 ghost use Rattle.js_names.specs.Index.{number_in};
 ghost use Rattle.js_names.specs.Program.{IsFault, Gives, Has, action_names, param_judged, param_env};
 
-use crate::fault::NameFault;
 use crate::index::Index;
 use crate::statements::Pass;
+use js_uses::NameFault;
 use script_names::{Binding, Cause};
 use script_tree::{Name, Reducer};
 use sqlite_items::Items;
@@ -30,7 +30,7 @@ pub struct Names {
 impl<'a> Pass<'a> {
     /// Where the scope of a reducer's parameters and its body's outer block begins.
     fn open(&mut self, reducer: &'a Reducer) -> Result<(), AllocError>
-        ensures env { OnOk result (env_of self.new.scopes ≡ enter (scope_of (params_of reducer.now.state reducer.now.action) (items_of (map item_view reducer.now.body))) (env_of self.old.scopes)) }
+        ensures env { OnOk result (env_of self.new.scopes ≡ enter (scope_of (params_of reducer.now.state reducer.now.action) (stmts_of (map stmt_view reducer.now.body))) (env_of self.old.scopes)) }
         ensures found { OnOk result (self.new.found ≡ self.old.found) }
     {
         self.scopes
@@ -64,7 +64,7 @@ impl<'a> Pass<'a> {
 
 /// The names in a reducer's parameters and body.
 fn body(alloc: Global, reducer: &Reducer) -> Result<Items<(usize, usize)>, NameFault>
-    ensures { Gives (gathered (judged_body (params_of reducer.now.state reducer.now.action) (items_of (map item_view reducer.now.body)))) result }
+    ensures { Gives (gathered (judged_body (params_of reducer.now.state reducer.now.action) (stmts_of (map stmt_view reducer.now.body)))) result }
 {
     let mut pass = Pass::new(alloc);
     pass.open(reducer)?;

@@ -1,18 +1,17 @@
 //! The names of statements and declarations.
 
 ghost use Rattle.std.specs.Prelude.{◌≡◌, [], ◌∷◌, ◌++◌, OnOk, option_map, map};
-ghost use Rattle.script_tree.specs.View.{view, item_view, items_of, inner_of};
-ghost use Rattle.script_names.specs.declared.Binding.TheVariants.{Variable, Constant};
+ghost use Rattle.script_tree.specs.View.{view, key_view, target_view, stmt_view, stmts_of};
+ghost use Rattle.script_names.specs.declared.Binding.TheVariants.{Variable};
 ghost use Rattle.script_names.specs.Environments.{empty, bind, enter};
-ghost use Rattle.script_names.specs.Names.{reads, writes, write_as, read, declare, declares, after, judged, judged_item};
-ghost use Rattle.js_names.specs.Scopes.{env_of, Adds};
-ghost use Rattle.js_names.specs.Judging.{Judges, value_reads, declared_name, all_judged};
+ghost use Rattle.script_names.specs.Names.{reads, reads_part, writes, write_as, declare, declares, binding, after, judged};
+ghost use Rattle.js_uses.specs.Scopes.{env_of, Adds};
+ghost use Rattle.js_uses.specs.Judging.{Judges};
+ghost use Rattle.js_names.specs.Judging.{value_reads, key_reads, declared_name, all_judged, loop_judged, cases_judged, Keeps};
 
-use crate::fault::NameFault;
-use crate::scopes::Scopes;
-use crate::uses;
+use js_uses::{NameFault, Scopes, read_names};
 use script_names::{Binding, Cause};
-use script_tree::{Expr, Name, Stmt};
+use script_tree::{Expr, Key, Name, Stmt, Target};
 use sqlite_items::Items;
 use std::alloc::{AllocError, Global};
 
@@ -48,7 +47,7 @@ impl<'a> Pass<'a> {
         ensures judges { Judges self.old.found.items (reads (env_of self.old.scopes) (view e.now)) result self.new.found.items }
         ensures scopes { self.new.scopes ≡ self.old.scopes }
     {
-        uses::expr(&self.scopes, &mut self.found, e)
+        read_names(&self.scopes, &mut self.found, e)
     }
 
     /// The names of an expression that may be left out.
@@ -60,6 +59,26 @@ impl<'a> Pass<'a> {
             Some(e) => self.expr(e),
             None => Ok(()),
         }
+    }
+
+    /// The last step to a member.
+    fn key(&mut self, key: &Key) -> Result<(), NameFault>
+        ensures judges { Judges self.old.found.items (key_reads (env_of self.old.scopes) key.now) result self.new.found.items }
+        ensures scopes { self.new.scopes ≡ self.old.scopes }
+    {
+        match key {
+            Key::Dot(_) => Ok(()),
+            Key::Index(e) => self.expr(e),
+        }
+    }
+
+    /// A member that is assigned or deleted: its object, and the last step to it.
+    fn part(&mut self, e: &Expr, key: &Key) -> Result<(), NameFault>
+        ensures judges { Judges self.old.found.items (reads_part (env_of self.old.scopes) (view e.now) (key_view key.now)) result self.new.found.items }
+        ensures scopes { self.new.scopes ≡ self.old.scopes }
+    {
+        self.expr(e)?;
+        self.key(key)
     }
 
     /// A name that is declared, where its declaration begins.
@@ -90,43 +109,40 @@ impl<'a> Pass<'a> {
         Ok(())
     }
 
-    /// What stands before `=`.
-    fn target(&mut self, t: &Expr) -> Result<(), NameFault>
-        ensures judges { Judges self.old.found.items (writes (env_of self.old.scopes) (view t.now)) result self.new.found.items }
+    /// What is assigned.
+    fn target(&mut self, t: &Target) -> Result<(), NameFault>
+        ensures judges { Judges self.old.found.items (writes (env_of self.old.scopes) (target_view t.now)) result self.new.found.items }
         ensures scopes { self.new.scopes ≡ self.old.scopes }
     {
         match t {
-            Expr::Name(name) => self.write(name.at, name.text.as_slice()),
-            Expr::Number(_) => self.expr(t),
-            Expr::Text(_) => self.expr(t),
-            Expr::True => self.expr(t),
-            Expr::False => self.expr(t),
-            Expr::Null => self.expr(t),
-            Expr::Undefined => self.expr(t),
-            Expr::Round(_) => self.expr(t),
-            Expr::List(_, _) => self.expr(t),
-            Expr::Object(_, _) => self.expr(t),
-            Expr::Member(_, _) => self.expr(t),
-            Expr::Unary(_, _) => self.expr(t),
-            Expr::Chain(_, _, _) => self.expr(t),
-            Expr::Choice(_, _, _) => self.expr(t),
+            Target::Name(name) => self.write(name.at, name.text.as_slice()),
+            Target::Member(e, key) => self.part(e, key),
         }
     }
 
-    /// The declaration of a constant.
-    fn constant(&mut self, name: &'a Name, e: &Expr) -> Result<(), NameFault>
+    /// What is assigned, and the value.
+    fn assignment(&mut self, t: &Target, e: &Expr) -> Result<(), NameFault>
+        ensures judges { Judges self.old.found.items (writes (env_of self.old.scopes) (target_view t.now) ++ reads (env_of self.old.scopes) (view e.now)) result self.new.found.items }
+        ensures scopes { self.new.scopes ≡ self.old.scopes }
+    {
+        self.target(t)?;
+        self.expr(e)
+    }
+
+    /// A declaration with its value, or the head of a loop with what the loop goes over: the name is bound from its end on.
+    fn declaration(&mut self, constant: bool, name: &'a Name, e: &Expr) -> Result<(), NameFault>
         ensures judges { Judges self.old.found.items (declare (env_of self.old.scopes) (name.now.at, name.now.text) ∷ reads (env_of self.old.scopes) (view e.now)) result self.new.found.items }
-        ensures env { OnOk result (env_of self.new.scopes ≡ bind (env_of self.old.scopes) name.now.text (Constant name.now.at)) }
+        ensures env { OnOk result (env_of self.new.scopes ≡ bind (env_of self.old.scopes) name.now.text (binding constant name.now.at)) }
         ensures adds { OnOk result (Adds self.old.scopes self.new.scopes) }
     {
         self.declare(name)?;
         self.expr(e)?;
         self.scopes
-            .bind(name.text.as_slice(), Binding::Constant(name.at))?;
+            .bind(name.text.as_slice(), binding(constant, name.at))?;
         Ok(())
     }
 
-    /// The declaration of a variable.
+    /// The declaration of a variable, which may have no value.
     pub(crate) fn variable(&mut self, name: &'a Name, e: &Option<Expr>) -> Result<(), NameFault>
         ensures judges { Judges self.old.found.items (declare (env_of self.old.scopes) (name.now.at, name.now.text) ∷ value_reads (env_of self.old.scopes) e.now) result self.new.found.items }
         ensures env { OnOk result (env_of self.new.scopes ≡ bind (env_of self.old.scopes) name.now.text (Variable name.now.at)) }
@@ -139,9 +155,9 @@ impl<'a> Pass<'a> {
         Ok(())
     }
 
-    /// Where a scope begins that declares the names of these items.
+    /// Where a scope begins that declares the names of these statements.
     pub(crate) fn enter(&mut self, items: &'a [Stmt]) -> Result<(), AllocError>
-        ensures env { OnOk result (env_of self.new.scopes ≡ enter (declares (items_of (map item_view items.now))) (env_of self.old.scopes)) }
+        ensures env { OnOk result (env_of self.new.scopes ≡ enter (declares (stmts_of (map stmt_view items.now))) (env_of self.old.scopes)) }
         ensures adds { OnOk result (Adds self.old.scopes self.new.scopes) }
         ensures found { OnOk result (self.new.found ≡ self.old.found) }
     {
@@ -154,7 +170,7 @@ impl<'a> Pass<'a> {
         Ok(())
     }
 
-    /// The items of a block, one after the other.
+    /// Statements, one after the other. A declaration binds its name from its end on.
     #[cycle(items)]
     pub(crate) fn items(&mut self, items: &'a [Stmt]) -> Result<(), NameFault>
         ensures judges { Judges self.old.found.items (all_judged (env_of self.old.scopes) items.now) result self.new.found.items }
@@ -169,9 +185,8 @@ impl<'a> Pass<'a> {
     /// A block, whose names stand for something else within.
     #[cycle(items)]
     fn block(&mut self, items: &'a [Stmt]) -> Result<(), NameFault>
-        ensures judges { Judges self.old.found.items (all_judged (enter (declares (items_of (map item_view items.now))) (env_of self.old.scopes)) items.now) result self.new.found.items }
-        ensures env { OnOk result (env_of self.new.scopes ≡ env_of self.old.scopes) }
-        ensures adds { OnOk result (Adds self.old.scopes self.new.scopes) }
+        ensures judges { Judges self.old.found.items (all_judged (enter (declares (stmts_of (map stmt_view items.now))) (env_of self.old.scopes)) items.now) result self.new.found.items }
+        ensures keeps { OnOk result (Keeps self.old.scopes self.new.scopes) }
     {
         let mark = self.scopes.mark();
         self.enter(items)?;
@@ -180,15 +195,72 @@ impl<'a> Pass<'a> {
         Ok(())
     }
 
-    /// An item of a block. A declaration binds its name from its end on.
+    /// The statements of a case, which in a program are no declarations.
+    #[cycle(items)]
+    fn apart(&mut self, items: &'a [Stmt]) -> Result<(), NameFault>
+        ensures judges { Judges self.old.found.items (all_judged (env_of self.old.scopes) items.now) result self.new.found.items }
+        ensures keeps { OnOk result (Keeps self.old.scopes self.new.scopes) }
+    {
+        let mark = self.scopes.mark();
+        self.items(items)?;
+        self.scopes.leave(mark)?;
+        Ok(())
+    }
+
+    /// The cases of a `switch`.
+    #[cycle(items)]
+    fn cases(&mut self, cases: &'a [(Expr, Items<Stmt>)]) -> Result<(), NameFault>
+        ensures judges { Judges self.old.found.items (cases_judged (env_of self.old.scopes) cases.now) result self.new.found.items }
+        ensures keeps { OnOk result (Keeps self.old.scopes self.new.scopes) }
+    {
+        for c in cases {
+            self.expr(&c.0)?;
+            self.apart(c.1.as_slice())?;
+        }
+        Ok(())
+    }
+
+    /// A loop. Its head is a scope, in which its statement stands; the name is unset in what the loop goes over.
+    #[cycle(items)]
+    fn turns(
+        &mut self,
+        body: &'a Stmt,
+        constant: bool,
+        name: &'a Name,
+        e: &Expr,
+    ) -> Result<(), NameFault>
+        ensures judges { Judges self.old.found.items (loop_judged (env_of self.old.scopes) constant name.now e.now body.now) result self.new.found.items }
+        ensures keeps { OnOk result (Keeps self.old.scopes self.new.scopes) }
+    {
+        let mark = self.scopes.mark();
+        self.scopes.bind(name.text.as_slice(), Binding::Unset)?;
+        self.declaration(constant, name, e)?;
+        self.item(body)?;
+        self.scopes.leave(mark)?;
+        Ok(())
+    }
+
+    /// A statement in a statement, which in a program is no declaration.
+    #[cycle(items)]
+    fn inner(&mut self, s: &'a Stmt) -> Result<(), NameFault>
+        ensures judges { Judges self.old.found.items (judged (env_of self.old.scopes) (stmt_view s.now)) result self.new.found.items }
+        ensures keeps { OnOk result (Keeps self.old.scopes self.new.scopes) }
+    {
+        let mark = self.scopes.mark();
+        self.item(s)?;
+        self.scopes.leave(mark)?;
+        Ok(())
+    }
+
+    /// A statement or a declaration.
     #[cycle(items)]
     fn item(&mut self, s: &'a Stmt) -> Result<(), NameFault>
-        ensures judges { Judges self.old.found.items (judged_item (env_of self.old.scopes) (item_view s.now)) result self.new.found.items }
-        ensures env { OnOk result (env_of self.new.scopes ≡ after (env_of self.old.scopes) (item_view s.now)) }
+        ensures judges { Judges self.old.found.items (judged (env_of self.old.scopes) (stmt_view s.now)) result self.new.found.items }
+        ensures env { OnOk result (env_of self.new.scopes ≡ after (env_of self.old.scopes) (stmt_view s.now)) }
         ensures adds { OnOk result (Adds self.old.scopes self.new.scopes) }
     {
         match s {
-            Stmt::Const(name, e) => self.constant(name, e),
+            Stmt::Const(name, e) => self.declaration(true, name, e),
             Stmt::Let(name, e) => self.variable(name, e),
             Stmt::Block(items) => self.block(items.as_slice()),
             Stmt::Empty => Ok(()),
@@ -200,48 +272,42 @@ impl<'a> Pass<'a> {
                     None => Ok(()),
                 }
             }
+            Stmt::For(constant, name, e, body) => self.turns(body.get(), *constant, name, e),
+            Stmt::Switch(e, cases) => {
+                self.expr(e)?;
+                self.cases(cases.as_slice())
+            }
+            Stmt::SwitchElse(e, before, other, behind) => {
+                self.expr(e)?;
+                self.cases(before.as_slice())?;
+                self.apart(other.as_slice())?;
+                self.cases(behind.as_slice())
+            }
+            Stmt::Break => Ok(()),
+            Stmt::Continue => Ok(()),
             Stmt::Return(e) => self.value(e),
             Stmt::Throw(e, _) => self.expr(e),
-            Stmt::Delete(e) => self.expr(e),
+            Stmt::Delete(e, key) => self.part(e, key),
             Stmt::Set(t, e) => self.assignment(t, e),
+            Stmt::Update(_, t, e) => self.assignment(t, e),
             Stmt::Do(e) => self.expr(e),
         }
     }
-
-    /// A statement in a statement, which is no declaration.
-    #[cycle(items)]
-    fn inner(&mut self, s: &'a Stmt) -> Result<(), NameFault>
-        ensures judges { Judges self.old.found.items (judged (env_of self.old.scopes) (inner_of (item_view s.now))) result self.new.found.items }
-        ensures env { OnOk result (env_of self.new.scopes ≡ env_of self.old.scopes) }
-        ensures adds { OnOk result (Adds self.old.scopes self.new.scopes) }
-    {
-        if declared_name(s).is_some() {
-            return self.nothing();
-        }
-        self.item(s)
-    }
-
-    /// What is assigned to, and the value.
-    fn assignment(&mut self, t: &Expr, e: &Expr) -> Result<(), NameFault>
-        ensures judges { Judges self.old.found.items (writes (env_of self.old.scopes) (view t.now) ++ reads (env_of self.old.scopes) (view e.now)) result self.new.found.items }
-        ensures scopes { self.new.scopes ≡ self.old.scopes }
-    {
-        self.target(t)?;
-        self.expr(e)
-    }
-
-    /// A tree that no program has stands for a name of no bytes.
-    fn nothing(&mut self) -> Result<(), NameFault>
-        ensures judges { Judges self.old.found.items (read (env_of self.old.scopes) (0, []) ∷ []) result self.new.found.items }
-        ensures scopes { self.new.scopes ≡ self.old.scopes }
-    {
-        uses::nothing(&self.scopes, &mut self.found)
-    }
 }
 
-/// The name that an item declares.
+/// What a declaration binds its name to.
+fn binding(constant: bool, at: usize) -> Binding
+    ensures { result ≡ binding constant at }
+{
+    if constant {
+        return Binding::Constant(at);
+    }
+    Binding::Variable(at)
+}
+
+/// The name that a statement declares.
 fn declared_name(s: &Stmt) -> Option<&[u8]>
-    ensures { option_map (λ b. b.now) result ≡ declared_name (item_view s.now) }
+    ensures { option_map (λ b. b.now) result ≡ declared_name (stmt_view s.now) }
 {
     match s {
         Stmt::Const(name, _) => Some(name.text.as_slice()),
@@ -249,10 +315,16 @@ fn declared_name(s: &Stmt) -> Option<&[u8]>
         Stmt::Block(_) => None,
         Stmt::Empty => None,
         Stmt::If(_, _, _) => None,
+        Stmt::For(_, _, _, _) => None,
+        Stmt::Switch(_, _) => None,
+        Stmt::SwitchElse(_, _, _, _) => None,
+        Stmt::Break => None,
+        Stmt::Continue => None,
         Stmt::Return(_) => None,
         Stmt::Throw(_, _) => None,
-        Stmt::Delete(_) => None,
+        Stmt::Delete(_, _) => None,
         Stmt::Set(_, _) => None,
+        Stmt::Update(_, _, _) => None,
         Stmt::Do(_) => None,
     }
 }

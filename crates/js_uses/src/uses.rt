@@ -148,7 +148,7 @@ fn parts(
     ensures { Judges found.old.items (all_parts (env_of scopes.now) items.now) result found.new.items }
 {
     for p in items {
-        part(scopes, found, p)?;
+        part(scopes, found, &p.0, p.1.as_slice())?;
     }
     Ok(())
 }
@@ -157,14 +157,15 @@ fn parts(
 fn part(
     scopes: &Scopes<'_>,
     found: &mut Vec<(usize, usize)>,
-    p: &(Label, Items<Expr>),
+    label: &Label,
+    values: &[Expr],
 ) -> Result<(), NameFault>
-    ensures { Judges found.old.items (part_reads (env_of scopes.now) p.now) result found.new.items }
+    ensures { Judges found.old.items (part_reads (env_of scopes.now) (label.now, values.now)) result found.new.items }
 {
-    match &p.0 {
-        Label::Word(_) => first(scopes, found, p.1.as_slice()),
-        Label::Quoted(_) => first(scopes, found, p.1.as_slice()),
-        Label::Spread => first(scopes, found, p.1.as_slice()),
+    match label {
+        Label::Word(_) => first(scopes, found, values),
+        Label::Quoted(_) => first(scopes, found, values),
+        Label::Spread => first(scopes, found, values),
         Label::Short(key) => read_key(scopes, found, key),
     }
 }
@@ -179,7 +180,7 @@ fn steps(
     ensures { Judges found.old.items (all_steps (env_of scopes.now) items.now) result found.new.items }
 {
     for a in items {
-        step(scopes, found, a)?;
+        step(scopes, found, &a.0, a.1.as_slice())?;
     }
     Ok(())
 }
@@ -188,14 +189,15 @@ fn steps(
 fn step(
     scopes: &Scopes<'_>,
     found: &mut Vec<(usize, usize)>,
-    a: &(Access, Items<Expr>),
+    access: &Access,
+    values: &[Expr],
 ) -> Result<(), NameFault>
-    ensures { Judges found.old.items (step_reads (env_of scopes.now) a.now) result found.new.items }
+    ensures { Judges found.old.items (step_reads (env_of scopes.now) (access.now, values.now)) result found.new.items }
 {
-    match &a.0 {
+    match access {
         Access::Dot(_) => Ok(()),
-        Access::Index => first(scopes, found, a.1.as_slice()),
-        Access::Call(_, _) => arguments(scopes, found, a.1.as_slice()),
+        Access::Index => first(scopes, found, values),
+        Access::Call(_, _) => arguments(scopes, found, values),
     }
 }
 

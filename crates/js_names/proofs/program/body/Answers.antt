@@ -1,12 +1,13 @@
 use Rattle.std.proofs.Common.{ℕ, Vec, Global, [], ◌++◌, map, Ok, Err, sym, ap, ◌∙◌}
 use Rattle.std.proofs.lemmas.Result.{err_from_is_err_and}
-use Rattle.script_tree.specs.View.{item_view, items_of, params_of}
+use Rattle.script_tree.specs.View.{stmt_view, stmts_of, params_of}
 use Rattle.script_names.specs.Environments.{enter}
 use Rattle.script_names.specs.Names.{judged_body, scope_of, gathered}
-use Rattle.js_names.specs.Scopes.{env_of}
-use Rattle.js_names.specs.Judging.{so_far, all_judged}
+use Rattle.js_uses.specs.Scopes.{env_of}
+use Rattle.js_uses.specs.Judging.{so_far}
+use Rattle.js_names.specs.Judging.{all_judged}
 use Rattle.js_names.specs.Program.{param_judged}
-use Rattle.js_names.proofs.Reading.{judges_on, judges_as, judged_first}
+use Rattle.js_uses.proofs.Reading.{judges_on, judges_as, judged_first}
 use Rattle.js_names.proofs.Whole.{body_on, gives_exit, fault_of, all_of}
 use Rattle.js_names.proofs.program.body.Goals as goal
 
@@ -15,12 +16,12 @@ returns-in_err-items c =
     let s = c.args.reducer.now.state in
     let a = c.args.reducer.now.action in
     let is = c.args.reducer.now.body in
-    let whole = judged_body (params_of s a) (items_of (map item_view is)) in
+    let whole = judged_body (params_of s a) (stmts_of (map stmt_view is)) in
     let env = env_of c.open.new.self.scopes in
     let next = env_of c.parameters.new.self.scopes in
     let b = c.parameters.new.self.found.items in
     let d = c.items.new.self.found.items in
-    let begins = c.in_ok-open.ensures.env ∙ ap (enter (scope_of (params_of s a) (items_of (map item_view is)))) c.new-pass.ensures.env in
+    let begins = c.in_ok-open.ensures.env ∙ ap (enter (scope_of (params_of s a) (stmts_of (map stmt_view is)))) c.new-pass.ensures.env in
     let parts = body_on env next s a is begins c.in_ok-parameters.ensures.env in
     let none = ap (λ (v : Vec (ℕ × ℕ) Global). v.items) c.in_ok-open.ensures.found ∙ c.new-pass.ensures.found in
     let first = sym (ap (λ found. so_far found (param_judged env s a)) none) ∙ c.in_ok-parameters.ensures.judges in
@@ -34,12 +35,12 @@ returns c =
     let s = c.args.reducer.now.state in
     let a = c.args.reducer.now.action in
     let is = c.args.reducer.now.body in
-    let whole = judged_body (params_of s a) (items_of (map item_view is)) in
+    let whole = judged_body (params_of s a) (stmts_of (map stmt_view is)) in
     let env = env_of c.open.new.self.scopes in
     let next = env_of c.parameters.new.self.scopes in
     let b = c.parameters.new.self.found.items in
     let d = c.items.new.self.found.items in
-    let begins = c.in_ok-open.ensures.env ∙ ap (enter (scope_of (params_of s a) (items_of (map item_view is)))) c.new-pass.ensures.env in
+    let begins = c.in_ok-open.ensures.env ∙ ap (enter (scope_of (params_of s a) (stmts_of (map stmt_view is)))) c.new-pass.ensures.env in
     let parts = body_on env next s a is begins c.in_ok-parameters.ensures.env in
     let none = ap (λ (v : Vec (ℕ × ℕ) Global). v.items) c.in_ok-open.ensures.found ∙ c.new-pass.ensures.found in
     let first = sym (ap (λ found. so_far found (param_judged env s a)) none) ∙ c.in_ok-parameters.ensures.judges in

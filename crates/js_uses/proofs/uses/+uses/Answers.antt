@@ -1,10 +1,12 @@
-use Rattle.std.proofs.Common.{[], ◌∷◌, ◌++◌, Ok, Err, refl, ap, ◌∙◌, sym}
+use Rattle.std.proofs.Common.{rules, arith, List, ◌++◌, Ok, Err, refl, ap, ◌∙◌, sym}
 use Rattle.std.proofs.lemmas.Result.{err_from_is_err_and}
-use Rattle.script_tree.specs.View.{view, key_pair}
-use Rattle.script_names.specs.Names.{read, reads}
+use Rattle.script_tree.specs.View.{view}
+use Rattle.script_tree.specs.declared.Expr.{Expr}
+use Rattle.script_tree.specs.declared.Access.{Access}
+use Rattle.script_names.specs.Names.{reads}
 use Rattle.js_uses.specs.Scopes.{env_of}
-use Rattle.js_uses.specs.Judging.{so_far, all_reads, first_reads, element_reads, all_elements, part_reads, all_parts, step_reads, all_steps, link_reads, all_links}
-use Rattle.js_uses.proofs.Reading.{judges_on, judges_as, in_word, in_quoted, in_spread, in_short, in_dot, in_index, in_call, in_list, in_object, in_member, in_chain, in_choice, exit_stop, loop_on, loop_exit}
+use Rattle.js_uses.specs.Judging.{so_far, all_reads, element_reads, all_elements, part_reads, all_parts, step_reads, all_steps, link_reads, all_links}
+use Rattle.js_uses.proofs.Reading.{judges_on, judges_as, in_call, in_list, in_object, in_member, in_chain, in_choice, exit_stop, loop_on, loop_exit}
 use Rattle.js_uses.proofs.uses.+uses.Goals as goal
 
 pub read_names-returns-in-List : goal.read_names-returns-in-List
@@ -97,45 +99,11 @@ read_names-returns-in_ok-read_names-in-Choice-2 t c =
     let r = c.read_names-in-Choice-3.result in
     judges_as a e (reads env (view c.args.e.now)) (reads env (view x) ++ (reads env (view y) ++ reads env (view z))) r (in_choice env c.args.e.now i.test i.then i.other x y z i.is c.get-in-Choice.ensures c.get-in-Choice-2.ensures c.get-in-Choice-3.ensures) (judges_on a b e (reads env (view x)) (reads env (view y) ++ reads env (view z)) r c.in_ok-read_names-in-Choice.ensures (judges_on b d e (reads env (view y)) (reads env (view z)) r c.in_ok-read_names-in-Choice-2.ensures c.read_names-in-Choice-3.ensures))
 
-pub part-returns-in-Word : goal.part-returns-in-Word
-part-returns-in-Word t c =
-    let env = env_of c.args.scopes.now in
-    let es = c.as_slice.result.now in
-    judges_as c.args.found.now.items c.first.new.found.items (part_reads env c.args.p.now) (first_reads env es) c.first.result (in_word env c.args.p.now c.in-Word.field-0 es c.in-Word.is c.as_slice.ensures) c.first.ensures
-
-pub part-returns-in-Quoted : goal.part-returns-in-Quoted
-part-returns-in-Quoted t c =
-    let env = env_of c.args.scopes.now in
-    let es = c.as_slice-in-Quoted.result.now in
-    judges_as c.args.found.now.items c.first-in-Quoted.new.found.items (part_reads env c.args.p.now) (first_reads env es) c.first-in-Quoted.result (in_quoted env c.args.p.now c.in-Quoted.field-0 es c.in-Quoted.is c.as_slice-in-Quoted.ensures) c.first-in-Quoted.ensures
-
-pub part-returns-in-Spread : goal.part-returns-in-Spread
-part-returns-in-Spread t c =
-    let env = env_of c.args.scopes.now in
-    let es = c.as_slice-in-Spread.result.now in
-    judges_as c.args.found.now.items c.first-in-Spread.new.found.items (part_reads env c.args.p.now) (first_reads env es) c.first-in-Spread.result (in_spread env c.args.p.now es c.in-Spread.is c.as_slice-in-Spread.ensures) c.first-in-Spread.ensures
-
-pub part-returns-in-Short : goal.part-returns-in-Short
-part-returns-in-Short t c =
-    let env = env_of c.args.scopes.now in
-    judges_as c.args.found.now.items c.read_key.new.found.items (part_reads env c.args.p.now) (read env (key_pair c.in-Short.key) ∷ []) c.read_key.result (in_short env c.args.p.now c.in-Short.key c.in-Short.is) c.read_key.ensures
-
-pub step-returns-in-Dot : goal.step-returns-in-Dot
-step-returns-in-Dot t c =
-    let env = env_of c.args.scopes.now in
-    ap (so_far c.args.found.now.items) (in_dot env c.args.a.now c.in-Dot.field-0 c.in-Dot.is)
-
-pub step-returns-in-Index : goal.step-returns-in-Index
-step-returns-in-Index t c =
-    let env = env_of c.args.scopes.now in
-    let es = c.as_slice.result.now in
-    judges_as c.args.found.now.items c.first.new.found.items (step_reads env c.args.a.now) (first_reads env es) c.first.result (in_index env c.args.a.now es c.in-Index.is c.as_slice.ensures) c.first.ensures
-
 pub step-returns-in-Call : goal.step-returns-in-Call
 step-returns-in-Call t c =
     let env = env_of c.args.scopes.now in
-    let es = c.as_slice-in-Call.result.now in
-    judges_as c.args.found.now.items c.arguments.new.found.items (step_reads env c.args.a.now) (all_reads env es) c.arguments.result (in_call env c.args.a.now c.in-Call.field-0 c.in-Call.field-1 es c.in-Call.is c.as_slice-in-Call.ensures) c.arguments.ensures
+    let a : Access × List Expr = (c.args.access.now, c.args.values.now) in
+    judges_as c.args.found.now.items c.arguments.new.found.items (step_reads env a) (all_reads env c.args.values.now) c.arguments.result (in_call env a c.in-Call.field-0 c.in-Call.field-1 c.args.values.now c.in-Call.is refl) c.arguments.ensures
 
 pub arguments-loop-e-preserved : goal.arguments-loop-e-preserved
 arguments-loop-e-preserved t c =
@@ -162,24 +130,32 @@ elements-returns-in_err-read_names t c =
 pub parts-loop-p-preserved : goal.parts-loop-p-preserved
 parts-loop-p-preserved t c =
     let env = env_of c.args.scopes.now in
-    loop_on (part_reads env) (all_parts env) (λ x xs. refl) c.args.items.now c.loop-p.p-index c.p-item.result c.loop-p-test.true c.p-item.is c.loop-p.found.items c.part.new.found.items _ c.in_ok-part.ensures c.loop-p.invariant
+    let same = ap (λ es. part_reads env (c.p-item.result.0, es)) (sym c.as_slice.ensures) in
+    loop_on (part_reads env) (all_parts env) (λ x xs. refl) c.args.items.now c.loop-p.p-index c.p-item.result c.loop-p-test.true c.p-item.is c.loop-p.found.items c.part.new.found.items _ (ap (so_far c.loop-p.found.items) same ∙ c.in_ok-part.ensures) c.loop-p.invariant
 
 pub parts-returns-in_err-part : goal.parts-returns-in_err-part
 parts-returns-in_err-part t c =
     let env = env_of c.args.scopes.now in
     let b = c.part.new.found.items in
-    loop_exit (part_reads env) (all_parts env) (λ x xs. refl) c.args.items.now c.loop-p.p-index c.p-item.result c.loop-p-test.true c.p-item.is c.args.found.now.items c.loop-p.found.items b b c.in_err-part.field-0.0 c.from_residual.result (err_from_is_err_and c.from_residual.result c.from_residual.ensures.1) c.in_err-part.ensures c.loop-p.invariant
+    let x = c.p-item.result in
+    let f = c.in_err-part.field-0.0 in
+    let same = ap (λ es. part_reads env (x.0, es)) (sym c.as_slice.ensures) in
+    loop_exit (part_reads env) (all_parts env) (λ x xs. refl) c.args.items.now c.loop-p.p-index x c.loop-p-test.true c.p-item.is c.args.found.now.items c.loop-p.found.items b b f c.from_residual.result (err_from_is_err_and c.from_residual.result c.from_residual.ensures.1) (judges_as c.loop-p.found.items b (part_reads env x) (part_reads env (x.0, c.as_slice.result.now)) (Err f) same c.in_err-part.ensures) c.loop-p.invariant
 
 pub steps-loop-a-preserved : goal.steps-loop-a-preserved
 steps-loop-a-preserved t c =
     let env = env_of c.args.scopes.now in
-    loop_on (step_reads env) (all_steps env) (λ x xs. refl) c.args.items.now c.loop-a.a-index c.a-item.result c.loop-a-test.true c.a-item.is c.loop-a.found.items c.step.new.found.items _ c.in_ok-step.ensures c.loop-a.invariant
+    let same = ap (λ es. step_reads env (c.a-item.result.0, es)) (sym c.as_slice.ensures) in
+    loop_on (step_reads env) (all_steps env) (λ x xs. refl) c.args.items.now c.loop-a.a-index c.a-item.result c.loop-a-test.true c.a-item.is c.loop-a.found.items c.step.new.found.items _ (ap (so_far c.loop-a.found.items) same ∙ c.in_ok-step.ensures) c.loop-a.invariant
 
 pub steps-returns-in_err-step : goal.steps-returns-in_err-step
 steps-returns-in_err-step t c =
     let env = env_of c.args.scopes.now in
     let b = c.step.new.found.items in
-    loop_exit (step_reads env) (all_steps env) (λ x xs. refl) c.args.items.now c.loop-a.a-index c.a-item.result c.loop-a-test.true c.a-item.is c.args.found.now.items c.loop-a.found.items b b c.in_err-step.field-0.0 c.from_residual.result (err_from_is_err_and c.from_residual.result c.from_residual.ensures.1) c.in_err-step.ensures c.loop-a.invariant
+    let x = c.a-item.result in
+    let f = c.in_err-step.field-0.0 in
+    let same = ap (λ es. step_reads env (x.0, es)) (sym c.as_slice.ensures) in
+    loop_exit (step_reads env) (all_steps env) (λ x xs. refl) c.args.items.now c.loop-a.a-index x c.loop-a-test.true c.a-item.is c.args.found.now.items c.loop-a.found.items b b f c.from_residual.result (err_from_is_err_and c.from_residual.result c.from_residual.ensures.1) (judges_as c.loop-a.found.items b (step_reads env x) (step_reads env (x.0, c.as_slice.result.now)) (Err f) same c.in_err-step.ensures) c.loop-a.invariant
 
 pub operands-loop-link-preserved : goal.operands-loop-link-preserved
 operands-loop-link-preserved t c =
@@ -191,3 +167,9 @@ operands-returns-in_err-read_names t c =
     let env = env_of c.args.scopes.now in
     let b = c.read_names.new.found.items in
     loop_exit (link_reads env) (all_links env) (λ x xs. refl) c.args.links.now c.loop-link.link-index c.link-item.result c.loop-link-test.true c.link-item.is c.args.found.now.items c.loop-link.found.items b b c.in_err-read_names.field-0.0 c.from_residual.result (err_from_is_err_and c.from_residual.result c.from_residual.ensures.1) c.in_err-read_names.ensures c.loop-link.invariant
+
+pub parts-part-requires : goal.parts-part-requires
+parts-part-requires t c = ?
+
+pub steps-step-requires : goal.steps-step-requires
+steps-step-requires t c = search rules depth 12

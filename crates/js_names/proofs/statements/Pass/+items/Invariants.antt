@@ -1,5 +1,5 @@
 use Rattle.std.proofs.Common.{◌≡◌, drop}
-use Rattle.js_names.specs.Scopes.{env_of, Adds}
+use Rattle.js_uses.specs.Scopes.{env_of, Adds}
 use Rattle.js_names.specs.Judging.{so_far, all_judged}
 use Rattle.js_names.proofs.statements.Pass.+items.Given as goal
 

@@ -2,8 +2,8 @@ use Rattle.std.proofs.lemmas.Result.{err_from_is_err_and}
 use Rattle.std.proofs.Common.{sym, ap}
 use Rattle.script_tree.specs.View.{view}
 use Rattle.script_names.specs.Names.{reads, writes}
-use Rattle.js_names.specs.Scopes.{env_of}
-use Rattle.js_names.proofs.Reading.{judges_on, judges_as, exit_stop}
+use Rattle.js_uses.specs.Scopes.{env_of}
+use Rattle.js_uses.proofs.Reading.{judges_on, judges_as, exit_stop}
 use Rattle.js_names.proofs.statements.Pass.assignment.Goals as goal
 
 pub returns-in_err-target-clause-judges : goal.returns-in_err-target-clause-judges

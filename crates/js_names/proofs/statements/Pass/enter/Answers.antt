@@ -1,5 +1,5 @@
 use Rattle.std.proofs.Common.{refl, ◌∙◌}
-use Rattle.js_names.specs.Scopes.{env_of}
+use Rattle.js_uses.specs.Scopes.{env_of}
 use Rattle.js_names.proofs.Going.{adds_none, adds_on, enter_some}
 use Rattle.js_names.proofs.statements.Pass.enter.Goals as goal
 

@@ -1,6 +1,6 @@
 use Rattle.std.proofs.Common.{◌≡◌, drop}
 use Rattle.script_names.specs.Environments.{enter}
-use Rattle.js_names.specs.Scopes.{env_of, Adds}
+use Rattle.js_uses.specs.Scopes.{env_of, Adds}
 use Rattle.js_names.proofs.Going.{names_at}
 use Rattle.js_names.proofs.statements.Pass.enter.Given as goal
 

@@ -1,8 +1,8 @@
 use Rattle.std.proofs.Common.{[], ◌∷◌}
 use Rattle.script_tree.specs.View.{view}
 use Rattle.script_names.specs.Names.{reads, writes, write_as}
-use Rattle.js_names.specs.Scopes.{env_of}
-use Rattle.js_names.proofs.Reading.{judges_as}
+use Rattle.js_uses.specs.Scopes.{env_of}
+use Rattle.js_uses.proofs.Reading.{judges_as}
 use Rattle.js_names.proofs.Going.{written, written_name, round_var, unary_var, choice_var, member_var, chain_var}
 use Rattle.js_names.proofs.statements.Pass.target.Goals as goal
 
