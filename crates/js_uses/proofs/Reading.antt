@@ -1,6 +1,8 @@
 -- Steps over names, one after the other.
-use Rattle.std.proofs.lemmas.List.{at_drop_more, append-nil}
-use Rattle.std.proofs.Common.{◌≡◌, ℕ, ◌+◌, ◌<◌, length, drop, get_or, Bool, true, false, List, [], ◌∷◌, ◌++◌, map, Result, Ok, Err, IsTrue, ◌↔◌, append_assoc, refl, sym, ap, subst, ◌∙◌}
+use Rattle.std.specs.Prelude.{◌==◌}
+use Rattle.std.proofs.lemmas.Bool.{ne_eqb}
+use Rattle.std.proofs.lemmas.List.{at_drop_more, append-nil, get_or_default}
+use Rattle.std.proofs.Common.{◌≡◌, ℕ, ◌+◌, ◌<◌, length, drop, get_or, Bool, true, false, List, [], ◌∷◌, ◌++◌, map, Result, Ok, Err, append_assoc, arith, refl, sym, ap, subst, ◌∙◌}
 use Rattle.script_text.specs.declared.sign.Sign.{Sign}
 use Rattle.script_grammar.specs.Trees.{Ex}
 use Rattle.script_text.specs.declared.method.Method.{Method}
@@ -153,15 +155,22 @@ loop_exit one all each xs i x h e s a b c f r p j inv =
     by (fault.Wrong k at) j = sym inv ∙ j
     by fault.Memory j = tt
 
+-- the same over places
+pub loop_at : {X : Type 0} (one : X → List Judged) (all : List X → List Judged) → Each one all → (xs : List X) (i : ℕ) (d : X) → i < length xs → (a b : Found) (g : Result Found (Cause × ℕ)) → so_far a (one (get_or xs i d)) ≡ Ok b → so_far a (all (drop i xs)) ≡ g → so_far b (all (drop (i + 1) xs)) ≡ g
+loop_at one all each xs i d h = loop_on one all each xs i (get_or xs i d) h (get_or_default xs i d (get_or xs i d) h)
+
+pub exit_at : {X : Type 0} (one : X → List Judged) (all : List X → List Judged) → Each one all → (xs : List X) (i : ℕ) (d : X) → i < length xs → (s a b c : Found) (f : NameFault) (r : Result (Unit {0}) NameFault) → (y : NameFault) × (r ≡ Err y) × (y ≡ f) → Judges a (one (get_or xs i d)) (Err f) b → so_far a (all (drop i xs)) ≡ so_far s (all xs) → Judges s (all xs) r c
+exit_at one all each xs i d h = loop_exit one all each xs i (get_or xs i d) h (get_or_default xs i d (get_or xs i d) h)
+
 -- ---- parts and steps by their variants
-pub in_word : (env : Env) (p : Label × List Expr) (w : Word) (es : List Expr) → p.0 ≡ label.Word w → es ≡ p.1 → part_reads env p ≡ first_reads env es
-in_word env p w es h i = ap (λ l. map (read env) (uses_prop (prop_by (map view p.1) l))) h ∙ sym (ap (first_reads env) i)
+pub in_word : (env : Env) (p : Label × List Expr) (w : Word) → p.0 ≡ label.Word w → part_reads env p ≡ first_reads env p.1
+in_word env p w h = ap (λ l. map (read env) (uses_prop (prop_by (map view p.1) l))) h
 
-pub in_quoted : (env : Env) (p : Label × List Expr) (t : List ℕ) (es : List Expr) → p.0 ≡ label.Quoted t → es ≡ p.1 → part_reads env p ≡ first_reads env es
-in_quoted env p t es h i = ap (λ l. map (read env) (uses_prop (prop_by (map view p.1) l))) h ∙ sym (ap (first_reads env) i)
+pub in_quoted : (env : Env) (p : Label × List Expr) (t : List ℕ) → p.0 ≡ label.Quoted t → part_reads env p ≡ first_reads env p.1
+in_quoted env p t h = ap (λ l. map (read env) (uses_prop (prop_by (map view p.1) l))) h
 
-pub in_spread : (env : Env) (p : Label × List Expr) (es : List Expr) → p.0 ≡ label.Spread → es ≡ p.1 → part_reads env p ≡ first_reads env es
-in_spread env p es h i = ap (λ l. map (read env) (uses_prop (prop_by (map view p.1) l))) h ∙ sym (ap (first_reads env) i)
+pub in_spread : (env : Env) (p : Label × List Expr) → p.0 ≡ label.Spread → part_reads env p ≡ first_reads env p.1
+in_spread env p h = ap (λ l. map (read env) (uses_prop (prop_by (map view p.1) l))) h
 
 pub in_short : (env : Env) (p : Label × List Expr) (k : NameKey) → p.0 ≡ label.Short k → part_reads env p ≡ read env (key_pair k) ∷ []
 in_short env p k h = ap (λ l. map (read env) (uses_prop (prop_by (map view p.1) l))) h
@@ -169,11 +178,24 @@ in_short env p k h = ap (λ l. map (read env) (uses_prop (prop_by (map view p.1)
 pub in_dot : (env : Env) (a : Access × List Expr) (w : Word) → a.0 ≡ access.Dot w → step_reads env a ≡ []
 in_dot env a w h = ap (λ x. map (read env) (uses_suffix (suffix_by (map view a.1) x))) h
 
-pub in_index : (env : Env) (a : Access × List Expr) (es : List Expr) → a.0 ≡ access.Index → es ≡ a.1 → step_reads env a ≡ first_reads env es
-in_index env a es h i = ap (λ x. map (read env) (uses_suffix (suffix_by (map view a.1) x))) h ∙ sym (ap (first_reads env) i)
+pub in_index : (env : Env) (a : Access × List Expr) → a.0 ≡ access.Index → step_reads env a ≡ first_reads env a.1
+in_index env a h = ap (λ x. map (read env) (uses_suffix (suffix_by (map view a.1) x))) h
 
-pub in_call : (env : Env) (a : Access × List Expr) (at : ℕ) (m : Method) (es : List Expr) → a.0 ≡ access.Call at m → es ≡ a.1 → step_reads env a ≡ all_reads env es
-in_call env a at m es h i = ap (λ x. map (read env) (uses_suffix (suffix_by (map view a.1) x))) h ∙ arguments env a.1 ∙ sym (ap (all_reads env) i)
+pub in_call : (env : Env) (a : Access × List Expr) (at : ℕ) (m : Method) → a.0 ≡ access.Call at m → step_reads env a ≡ all_reads env a.1
+in_call env a at m h = ap (λ x. map (read env) (uses_suffix (suffix_by (map view a.1) x))) h ∙ arguments env a.1
+
+-- what stands in the place of one expression
+pub no_value : (env : Env) (es fs : List Expr) (b : Bool) → fs ≡ es → b ≡ (length fs == 0) → b ≡ true → first_reads env es ≡ []
+no_value env es [] b e h t = ap (first_reads env) (sym e)
+no_value env es (f ∷ fs) b e h t =
+    let some : (length (f ∷ fs) == 0) ≡ false = ne_eqb (length (f ∷ fs)) 0 (omega arith) in
+    absurd cc
+
+pub one_value : (env : Env) (es fs : List Expr) (b : Bool) (v : Expr) → fs ≡ es → b ≡ (length fs == 0) → b ≡ false → v ≡ get_or fs 0 v → first_reads env es ≡ reads env (view v)
+one_value env es [] b v e h t i =
+    let none : (length {A = Expr} [] == 0) ≡ true = refl in
+    absurd cc
+one_value env es (f ∷ fs) b v e h t i = ap (first_reads env) (sym e) ∙ sym (ap (λ x. reads env (view x)) i)
 
 -- ---- the names of a whole list
 abbrev behind : Found → Result Found (Cause × ℕ) → Result Found (Cause × ℕ)

@@ -1,12 +1,14 @@
 -- What a step over names has to answer: the names so far and its own, with their declarations, or the first fault.
-use Rattle.std.specs.Prelude.{◌≡◌, ℕ, Bool, List, [], ◌∷◌, ◌++◌, map, Result, Ok, Err}
+use Rattle.std.specs.Prelude.{◌≡◌, ℕ, Bool, List, [], ◌∷◌, ◌++◌, map, get_or, Result, Ok, Err}
 use Rattle.script_names.specs.declared.Cause.{Cause}
 use Rattle.script_names.specs.Environments.{Env}
 use Rattle.script_names.specs.Names.{Judged, reads, read, uses_prop, uses_suffix}
 use Rattle.script_text.specs.declared.sign.Sign.{Sign}
 use Rattle.script_tree.specs.declared.Expr.{Expr}
 use Rattle.script_tree.specs.declared.Label.{Label}
+use Rattle.script_tree.specs.declared.Label.TheVariants as label
 use Rattle.script_tree.specs.declared.Access.{Access}
+use Rattle.script_tree.specs.declared.Access.TheVariants as access
 use Rattle.script_tree.specs.View.{view, first_of, prop_of, suffix_of}
 use Rattle.js_uses.specs.declared.fault.NameFault.{NameFault}
 use Rattle.js_uses.specs.declared.fault.NameFault.TheVariants as fault
@@ -40,6 +42,19 @@ element_reads env e = reads env (view e.1)
 abbrev pub all_elements : Env → List (Bool × Expr) → List Judged
 all_elements env [] = []
 all_elements env (e ∷ es) = element_reads env e ++ all_elements env es
+
+-- what stands in no list of parts or steps
+abbrev pub no_part : Label × List Expr
+no_part = (label.Spread, [])
+
+abbrev pub no_step : Access × List Expr
+no_step = (access.Index, [])
+
+abbrev pub part_at : List (Label × List Expr) → ℕ → Label × List Expr
+part_at xs at = get_or xs at no_part
+
+abbrev pub step_at : List (Access × List Expr) → ℕ → Access × List Expr
+step_at xs at = get_or xs at no_step
 
 -- of a part of an object literal
 abbrev pub part_reads : Env → Label × List Expr → List Judged

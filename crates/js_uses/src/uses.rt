@@ -1,10 +1,10 @@
 //! The names of variables in expressions.
 
-ghost use Rattle.std.specs.Prelude.{◌≡◌, [], ◌∷◌};
+ghost use Rattle.std.specs.Prelude.{◌≡◌, ◌<◌, [], ◌∷◌, length};
 ghost use Rattle.script_tree.specs.View.{view, key_pair};
 ghost use Rattle.script_names.specs.Names.{read as judged_read, reads};
 ghost use Rattle.js_uses.specs.Scopes.{env_of};
-ghost use Rattle.js_uses.specs.Judging.{Judges, all_reads, first_reads, all_elements, part_reads, all_parts, step_reads, all_steps, all_links};
+ghost use Rattle.js_uses.specs.Judging.{Judges, all_reads, first_reads, all_elements, part_at, part_reads, all_parts, step_at, step_reads, all_steps, all_links};
 
 use crate::fault::NameFault;
 use crate::scopes::Scopes;
@@ -93,36 +93,6 @@ pub fn read_names(
     }
 }
 
-/// The arguments of a call.
-#[cycle(uses)]
-fn arguments(
-    scopes: &Scopes<'_>,
-    found: &mut Vec<(usize, usize)>,
-    items: &[Expr],
-) -> Result<(), NameFault>
-    ensures { Judges found.old.items (all_reads (env_of scopes.now) items.now) result found.new.items }
-{
-    for e in items {
-        read_names(scopes, found, e)?;
-    }
-    Ok(())
-}
-
-/// What stands in the place of one expression: the first, where there is one.
-#[cycle(uses)]
-fn first(
-    scopes: &Scopes<'_>,
-    found: &mut Vec<(usize, usize)>,
-    items: &[Expr],
-) -> Result<(), NameFault>
-    ensures { Judges found.old.items (first_reads (env_of scopes.now) items.now) result found.new.items }
-{
-    if items.is_empty() {
-        return Ok(());
-    }
-    read_names(scopes, found, &items[0])
-}
-
 /// The elements of a list literal.
 #[cycle(uses)]
 fn elements(
@@ -147,27 +117,47 @@ fn parts(
 ) -> Result<(), NameFault>
     ensures { Judges found.old.items (all_parts (env_of scopes.now) items.now) result found.new.items }
 {
-    for p in items {
-        part(scopes, found, &p.0, p.1.as_slice())?;
+    for at in 0..items.len() {
+        part(scopes, found, items, at)?;
     }
     Ok(())
 }
 
+/// One of them. A name that stands alone is a use.
 #[cycle(uses)]
 fn part(
     scopes: &Scopes<'_>,
     found: &mut Vec<(usize, usize)>,
-    label: &Label,
-    values: &[Expr],
+    items: &[(Label, Items<Expr>)],
+    at: usize,
 ) -> Result<(), NameFault>
-    ensures { Judges found.old.items (part_reads (env_of scopes.now) (label.now, values.now)) result found.new.items }
+    requires { at < length items.now }
+    ensures { Judges found.old.items (part_reads (env_of scopes.now) (part_at items.now at)) result found.new.items }
 {
-    match label {
-        Label::Word(_) => first(scopes, found, values),
-        Label::Quoted(_) => first(scopes, found, values),
-        Label::Spread => first(scopes, found, values),
+    match &items[at].0 {
+        Label::Word(_) => value(scopes, found, items, at),
+        Label::Quoted(_) => value(scopes, found, items, at),
+        Label::Spread => value(scopes, found, items, at),
         Label::Short(key) => read_key(scopes, found, key),
     }
+}
+
+/// The value of a part.
+#[cycle(uses)]
+fn value(
+    scopes: &Scopes<'_>,
+    found: &mut Vec<(usize, usize)>,
+    items: &[(Label, Items<Expr>)],
+    at: usize,
+) -> Result<(), NameFault>
+    requires { at < length items.now }
+    ensures { Judges found.old.items (first_reads (env_of scopes.now) (part_at items.now at).1) result found.new.items }
+{
+    let values = items[at].1.as_slice();
+    if values.is_empty() {
+        return Ok(());
+    }
+    read_names(scopes, found, &values[0])
 }
 
 /// The steps behind an expression.
@@ -179,26 +169,64 @@ fn steps(
 ) -> Result<(), NameFault>
     ensures { Judges found.old.items (all_steps (env_of scopes.now) items.now) result found.new.items }
 {
-    for a in items {
-        step(scopes, found, &a.0, a.1.as_slice())?;
+    for at in 0..items.len() {
+        step(scopes, found, items, at)?;
     }
     Ok(())
 }
 
+/// One of them.
 #[cycle(uses)]
 fn step(
     scopes: &Scopes<'_>,
     found: &mut Vec<(usize, usize)>,
-    access: &Access,
-    values: &[Expr],
+    items: &[(Access, Items<Expr>)],
+    at: usize,
 ) -> Result<(), NameFault>
-    ensures { Judges found.old.items (step_reads (env_of scopes.now) (access.now, values.now)) result found.new.items }
+    requires { at < length items.now }
+    ensures { Judges found.old.items (step_reads (env_of scopes.now) (step_at items.now at)) result found.new.items }
 {
-    match access {
+    match &items[at].0 {
         Access::Dot(_) => Ok(()),
-        Access::Index => first(scopes, found, values),
-        Access::Call(_, _) => arguments(scopes, found, values),
+        Access::Index => index(scopes, found, items, at),
+        Access::Call(_, _) => arguments(scopes, found, items, at),
     }
+}
+
+/// The index between square brackets.
+#[cycle(uses)]
+fn index(
+    scopes: &Scopes<'_>,
+    found: &mut Vec<(usize, usize)>,
+    items: &[(Access, Items<Expr>)],
+    at: usize,
+) -> Result<(), NameFault>
+    requires { at < length items.now }
+    ensures { Judges found.old.items (first_reads (env_of scopes.now) (step_at items.now at).1) result found.new.items }
+{
+    let values = items[at].1.as_slice();
+    if values.is_empty() {
+        return Ok(());
+    }
+    read_names(scopes, found, &values[0])
+}
+
+/// The arguments of a call.
+#[cycle(uses)]
+fn arguments(
+    scopes: &Scopes<'_>,
+    found: &mut Vec<(usize, usize)>,
+    items: &[(Access, Items<Expr>)],
+    at: usize,
+) -> Result<(), NameFault>
+    requires { at < length items.now }
+    ensures { Judges found.old.items (all_reads (env_of scopes.now) (step_at items.now at).1) result found.new.items }
+{
+    let values = items[at].1.as_slice();
+    for e in values {
+        read_names(scopes, found, e)?;
+    }
+    Ok(())
 }
 
 /// The operands behind the operators of a chain.
