@@ -1,10 +1,11 @@
 -- What a step over statements has to answer.
-use Rattle.std.specs.Prelude.{◌≡◌, ℕ, Bool, List, [], ◌∷◌, ◌++◌, map, Option, Some, None}
+use Rattle.std.specs.Prelude.{◌≡◌, ℕ, Bool, List, [], ◌∷◌, ◌++◌, map, get_or, Option, Some, None}
 use Rattle.script_names.specs.Environments.{Env, bind}
 use Rattle.script_names.specs.Names.{Judged, read, reads, declare, binding, head, after, judged, uses_suffix}
 use Rattle.script_grammar.specs.Trees.{Stmt as St, Const, Let, LetBe}
 use Rattle.script_tree.specs.declared.Name.{Name}
 use Rattle.script_tree.specs.declared.Expr.{Expr}
+use Rattle.script_tree.specs.declared.Expr.TheVariants as ex
 use Rattle.script_tree.specs.declared.Key.{Key}
 use Rattle.script_tree.specs.declared.Stmt.{Stmt}
 use Rattle.script_tree.specs.View.{view, key_view, stmt_view}
@@ -37,6 +38,13 @@ loop_judged env c n e s = declare (head env n.text) (n.at, n.text) ∷ (reads (h
 -- a case: what is compared, and its statements
 abbrev pub case_judged : Env → Expr × List Stmt → List Judged
 case_judged env c = reads env (view c.0) ++ all_judged env c.1
+
+-- what stands in no list of cases
+abbrev pub no_case : Expr × List Stmt
+no_case = (ex.Undefined, [])
+
+abbrev pub case_at : List (Expr × List Stmt) → ℕ → Expr × List Stmt
+case_at cs at = get_or cs at no_case
 
 abbrev pub cases_judged : Env → List (Expr × List Stmt) → List Judged
 cases_judged env [] = []

@@ -1,13 +1,13 @@
 //! The names of statements and declarations.
 
-ghost use Rattle.std.specs.Prelude.{◌≡◌, [], ◌∷◌, ◌++◌, OnOk, option_map, map};
+ghost use Rattle.std.specs.Prelude.{◌≡◌, ◌<◌, [], ◌∷◌, ◌++◌, length, OnOk, option_map, map};
 ghost use Rattle.script_tree.specs.View.{view, key_view, target_view, stmt_view, stmts_of};
 ghost use Rattle.script_names.specs.declared.Binding.TheVariants.{Variable};
 ghost use Rattle.script_names.specs.Environments.{empty, bind, enter};
 ghost use Rattle.script_names.specs.Names.{reads, reads_part, writes, write_as, declare, declares, binding, after, judged};
 ghost use Rattle.js_uses.specs.Scopes.{env_of, Adds};
 ghost use Rattle.js_uses.specs.Judging.{Judges};
-ghost use Rattle.js_names.specs.Judging.{value_reads, key_reads, declared_name, all_judged, loop_judged, cases_judged, Keeps};
+ghost use Rattle.js_names.specs.Judging.{value_reads, key_reads, declared_name, all_judged, loop_judged, case_judged, case_at, cases_judged, Keeps};
 
 use js_uses::{NameFault, Scopes, read_names};
 use script_names::{Binding, Cause};
@@ -195,7 +195,7 @@ impl<'a> Pass<'a> {
         Ok(())
     }
 
-    /// The statements of a case, which in a program are no declarations.
+    /// Statements that stand in no scope of their own, which in a program are no declarations.
     #[cycle(items)]
     fn apart(&mut self, items: &'a [Stmt]) -> Result<(), NameFault>
         ensures judges { Judges self.old.found.items (all_judged (env_of self.old.scopes) items.now) result self.new.found.items }
@@ -213,9 +213,40 @@ impl<'a> Pass<'a> {
         ensures judges { Judges self.old.found.items (cases_judged (env_of self.old.scopes) cases.now) result self.new.found.items }
         ensures keeps { OnOk result (Keeps self.old.scopes self.new.scopes) }
     {
-        for c in cases {
-            self.expr(&c.0)?;
-            self.apart(c.1.as_slice())?;
+        for at in 0..cases.len() {
+            self.one_case(cases, at)?;
+        }
+        Ok(())
+    }
+
+    /// One of them: what is compared, and its statements.
+    #[cycle(items)]
+    fn one_case(&mut self, cases: &'a [(Expr, Items<Stmt>)], at: usize) -> Result<(), NameFault>
+        requires { at < length cases.now }
+        ensures judges { Judges self.old.found.items (case_judged (env_of self.old.scopes) (case_at cases.now at)) result self.new.found.items }
+        ensures keeps { OnOk result (Keeps self.old.scopes self.new.scopes) }
+    {
+        let mark = self.scopes.mark();
+        self.expr(&cases[at].0)?;
+        self.case_items(cases, at)?;
+        self.scopes.leave(mark)?;
+        Ok(())
+    }
+
+    /// The statements of one of them.
+    #[cycle(items)]
+    fn case_items(
+        &mut self,
+        cases: &'a [(Expr, Items<Stmt>)],
+        at: usize,
+    ) -> Result<(), NameFault>
+        requires { at < length cases.now }
+        ensures judges { Judges self.old.found.items (all_judged (env_of self.old.scopes) (case_at cases.now at).1) result self.new.found.items }
+        ensures adds { OnOk result (Adds self.old.scopes self.new.scopes) }
+    {
+        let items = cases[at].1.as_slice();
+        for s in items {
+            self.item(s)?;
         }
         Ok(())
     }
