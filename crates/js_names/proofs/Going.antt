@@ -2,8 +2,7 @@
 use Rattle.std.proofs.Common.{◌≡◌, ℕ, ◌+◌, ◌<◌, length, drop, take, get_or, Bool, true, false, List, [], ◌∷◌, ◌++◌, map, Option, Some, None, Result, Ok, Err, refl, sym, ap, ◌∙◌, append_assoc}
 use Rattle.std.proofs.lemmas.List.{at_drop_more, append-nil, get_or_default}
 use Rattle.std.proofs.Math.Seq.{drop-append_seam, take-append_seam}
-use Rattle.script_grammar.specs.Trees.{Ex, Suffix, Stmt as St, Const, Let, LetBe}
-use Rattle.script_grammar.specs.declared.Compound.{Compound}
+use Rattle.script_grammar.specs.Trees.{Ex, Stmt as St, Const, Let, LetBe}
 use Rattle.script_tree.specs.declared.Name.{Name}
 use Rattle.script_tree.specs.declared.Key.{Key}
 use Rattle.script_tree.specs.declared.Target.{Target}
@@ -16,7 +15,7 @@ use Rattle.script_tree.proofs.Statements.{case_view, view_const, view_block, vie
 use Rattle.script_names.specs.Environments.{Env, bind, enter}
 use Rattle.script_names.specs.declared.Cause.{Cause}
 use Rattle.script_names.specs.declared.Binding.TheVariants.{Unset}
-use Rattle.script_names.specs.Names.{Judged, uses, uses_suffix, reads, reads_part, declare, declares, after, judged, judged_all, judged_cases}
+use Rattle.script_names.specs.Names.{Judged, uses, uses_suffix, reads, reads_part, writes, write_as, declare, declares, after, judged, judged_all, judged_cases}
 use Rattle.js_uses.specs.declared.fault.NameFault.{NameFault}
 use Rattle.js_uses.specs.declared.scopes.Scopes.{Scopes}
 use Rattle.js_uses.specs.Scopes.{Adds, back, env_of}
@@ -80,7 +79,10 @@ keeps_on r s t a b = record { env = b.env ∙ a.env; adds = adds_on r s t a.adds
 pub keeps_left : (s m t : Scopes) (k : ℕ) → Adds s m → k ≡ length s.trail.items → env_of t ≡ back (drop k m.trail.items) (env_of m) → t.trail.items ≡ take k m.trail.items → Keeps s t
 keeps_left s m t k a e h g = record { env = left s m t k a e h; adds = left_adds s m t k a e h g }
 
--- ---- members
+-- ---- what is assigned
+pub written : (env : Env) (t : Target) (n : Name) (x : List ℕ) → t ≡ target.Name n → x ≡ n.text → writes env (target_view t) ≡ write_as n.at (env x) ∷ []
+written env t n x h i = ap (λ t. writes env (target_view t)) h ∙ sym (ap (λ x. write_as n.at (env x) ∷ []) i)
+
 pub in_part : (env : Env) (e : Expr) (k : Key) → reads_part env (view e) (key_view k) ≡ reads env (view e) ++ key_reads env k
 in_part env e k = map_reads env (uses (view e)) (uses_suffix (key_view k))
 
