@@ -11,7 +11,7 @@ use Rattle.script_tree.specs.declared.Expr.{Expr}
 use Rattle.script_tree.specs.declared.Stmt.{Stmt}
 use Rattle.script_tree.specs.declared.Stmt.TheVariants as st
 use Rattle.script_tree.specs.View.{view, key_view, target_view, stmt_view, stmts_of, cases_of, throw_of}
-use Rattle.script_tree.proofs.Statements.{case_view, view_const, view_block, view_throw, view_if_then, view_if_else, view_for, view_switch, view_switch_else}
+use Rattle.script_tree.proofs.Statements.{case_view, view_const, view_block, view_throw, view_delete, view_if_then, view_if_else, view_for, view_switch, view_switch_else}
 use Rattle.script_names.specs.Environments.{Env, bind, enter}
 use Rattle.script_names.specs.declared.Cause.{Cause}
 use Rattle.script_names.specs.declared.Binding.TheVariants.{Unset}
@@ -107,6 +107,9 @@ throws env e false = refl
 
 pub in_throw : (env : Env) (s : Stmt) (e : Expr) (b : Bool) → s ≡ st.Throw e b → judged env (stmt_view s) ≡ reads env (view e)
 in_throw env s e b h = ap (λ s. judged env (stmt_view s)) h ∙ ap (judged env) (view_throw e b) ∙ throws env (view e) b
+
+pub in_delete : (env : Env) (s : Stmt) (e : Expr) (k : Key) → s ≡ st.Delete e k → judged env (stmt_view s) ≡ reads_part env (view e) (key_view k)
+in_delete env s e k h = ap (λ s. judged env (stmt_view s)) h ∙ ap (judged env) (view_delete e k)
 
 abbrev pub inner_judged : Env → Stmt → List Judged
 inner_judged env s = judged env (stmt_view s)

@@ -3,14 +3,14 @@ use Rattle.std.proofs.lemmas.Result.{err_from_is_err_and, on_ok_weaker}
 use Rattle.std.proofs.lemmas.List.{get_or_default}
 use Rattle.script_tree.specs.declared.Expr.{Expr}
 use Rattle.script_tree.specs.declared.Stmt.{Stmt}
-use Rattle.script_tree.specs.View.{view, stmt_view}
+use Rattle.script_tree.specs.View.{view, key_view, stmt_view}
 use Rattle.script_names.specs.Environments.{bind, enter}
-use Rattle.script_names.specs.Names.{reads, declare, binding, head, judged}
+use Rattle.script_names.specs.Names.{reads, reads_part, declare, binding, head, judged}
 use Rattle.js_uses.specs.Scopes.{env_of, Adds}
 use Rattle.js_uses.specs.Judging.{so_far}
 use Rattle.js_uses.proofs.Reading.{judges_on, judges_as, judges_exit, exit_stop, loop_at, exit_at}
 use Rattle.js_names.specs.Judging.{all_judged, loop_judged, no_case, case_at, case_judged, cases_judged, Keeps}
-use Rattle.js_names.proofs.Going.{adds_none, adds_on, items_on, items_exit, keeps_none, keeps_on, keeps_left, names_at, inner_judged, in_const, in_throw, in_block, in_if, other_judged, in_for, in_switch, in_switch_else, after_block, after_if, after_for, after_switch, after_switch_else}
+use Rattle.js_names.proofs.Going.{adds_none, adds_on, items_on, items_exit, keeps_none, keeps_on, keeps_left, names_at, inner_judged, in_const, in_throw, in_delete, in_block, in_if, other_judged, in_for, in_switch, in_switch_else, after_block, after_if, after_for, after_switch, after_switch_else}
 use Rattle.js_names.proofs.statements.Pass.+items.Goals as goal
 
 -- ---- statements, one after the other
@@ -216,6 +216,12 @@ item-returns-in-Throw-clause-judges t c =
     let i = c.in-Throw in
     let r = c.expr-in-Throw in
     judges_as c.args.self.now.found.items r.new.self.found.items (inner_judged env c.args.s.now) (reads env (view i.e)) r.result (in_throw env c.args.s.now i.e i.field-1 i.is) r.ensures.judges
+
+pub item-returns-in-Delete-clause-judges : goal.item-returns-in-Delete-clause-judges
+item-returns-in-Delete-clause-judges t c =
+    let env = env_of c.args.self.now.scopes in
+    let i = c.in-Delete in
+    judges_as c.args.self.now.found.items c.part.new.self.found.items (inner_judged env c.args.s.now) (reads_part env (view i.e) (key_view i.key)) c.part.result (in_delete env c.args.s.now i.e i.key i.is) c.part.ensures.judges
 
 pub item-returns-in-Block-clause-judges : goal.item-returns-in-Block-clause-judges
 item-returns-in-Block-clause-judges t c =
