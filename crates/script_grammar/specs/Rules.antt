@@ -10,6 +10,7 @@ use Rattle.script_text.specs.declared.method.Method.TheVariants as method
 use Rattle.script_text.specs.declared.method.Arity.{Arity}
 use Rattle.script_text.specs.declared.method.Arity.TheVariants as takes
 use Rattle.script_text.specs.Methods.{arity, named_method}
+use Rattle.script_grammar.specs.declared.Builtin.TheVariants as builtin
 use Rattle.script_grammar.specs.Tokens.{Tok, Fixed, Toks}
 use Rattle.script_grammar.specs.Spelling.{spell_builtin, spell_ex, spell_elem, spell_prop, spell_suffix, spell_target, spell_stmt, spell_stmts, spell_cases, spell_params, spell_reducer}
 use Rattle.script_grammar.specs.Trees.{Word, Named, Reserve, Ex, Literal, Var, Round, ListOf, Object, New, Apply, FromKeys, Member, Unary, Chain, Choice, Elem, Element, Spread, Elems, NoElems, LastElem, ThenElem, Prop, Keyed, Quoted, Short, Merge, Props, NoProps, LastProp, ThenProp, Suffix, Dot, Index, Call, Suffixes, NoSuffixes, ThenSuffix, Args, NoArgs, FirstArg, More, NoMore, ThenMore, Links, NoLinks, ThenLink, Target, Place, Part, Stmt, Const, Let, LetBe, Block, Empty, IfThen, IfElse, For, Switch, SwitchElse, Break, Continue, Return, ReturnOf, Throw, ThrowError, Delete, Set, Update, Do, Stmts, NoStmts, ThenStmt, Cases, NoCases, ThenCase, Reducer, Function, Program, NoReducers, ThenReducer}
@@ -254,7 +255,7 @@ abbrev mutual
   within (Object ps) d n = opens d n (within_props ps)
   within (New c) d n = opens d (n - 1 - 1) nothing_in
   within (Apply f e) d n = opens d (n - length (spell_builtin f)) (within e)
-  within (FromKeys at e k) d n = opens d (n - 1 - 1 - 1) (λ c m. within e c m && opens c (m - length (spell_ex e) - 1 - 1) nothing_in)
+  within (FromKeys at e k) d n = opens d (n - length (spell_builtin (builtin.From at))) (λ c m. within e c m && opens c (m - length (spell_ex e) - 1 - 1) nothing_in)
   within (Member e s ss) d n = within e d n && (within_suffix s d (n - length (spell_ex e)) && within_suffixes ss d (n - length (spell_ex e) - length (spell_suffix s)))
   within (Unary s e) d n = opens d n (within e)
   within (Chain k a s b ls) d n = within a d n && (within b d (n - length (spell_ex a) - 1) && within_links ls d (n - length (spell_ex a) - 1 - length (spell_ex b)))

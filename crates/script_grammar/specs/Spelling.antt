@@ -65,7 +65,7 @@ abbrev mutual
   spell_ex (Object ps) = Fixed OpenBrace ∷ (spell_props ps ++ Fixed CloseBrace ∷ [])
   spell_ex (New c) = Kept kept.New ∷ spell_container c ∷ Fixed OpenRound ∷ Fixed CloseRound ∷ []
   spell_ex (Apply f e) = spell_builtin f ++ Fixed OpenRound ∷ (spell_ex e ++ Fixed CloseRound ∷ [])
-  spell_ex (FromKeys at e k) = Kept kept.Array ∷ Fixed Point ∷ Name at from_word ∷ Fixed OpenRound ∷ (spell_ex e ++ Fixed Point ∷ Name k keys_word ∷ Fixed OpenRound ∷ Fixed CloseRound ∷ Fixed CloseRound ∷ [])
+  spell_ex (FromKeys at e k) = spell_builtin (builtin.From at) ++ Fixed OpenRound ∷ (spell_ex e ++ Fixed Point ∷ Name k keys_word ∷ Fixed OpenRound ∷ Fixed CloseRound ∷ Fixed CloseRound ∷ [])
   spell_ex (Member e s ss) = spell_ex e ++ (spell_suffix s ++ spell_suffixes ss)
   spell_ex (Unary s e) = Fixed s ∷ spell_ex e
   spell_ex (Chain k a s b ls) = spell_ex a ++ Fixed s ∷ (spell_ex b ++ spell_links ls)

@@ -5,16 +5,19 @@ use Rattle.std.proofs.lemmas.Bool.{eqb-true}
 use Rattle.script_text.specs.declared.sign.Sign.{Sign}
 use Rattle.script_text.specs.declared.sign.Sign.TheVariants.{Same, NotSame, AtMost, AtLeast, And, Or, PlusAssign, MinusAssign, StarAssign, PercentAssign, Ellipsis, OpenRound, CloseRound, OpenBrace, CloseBrace, OpenSquare, CloseSquare, Comma, Semicolon, Colon, Question, Assign, Less, Greater, Plus, Minus, Star, Percent, Not, Dot as Point}
 use Rattle.script_text.specs.declared.word.Reserved.TheVariants as kept
+use Rattle.script_grammar.specs.declared.Builtin.{Builtin}
+use Rattle.script_grammar.specs.declared.Builtin.TheVariants as builtin
 use Rattle.script_grammar.specs.Tokens.{Tok, Name, Kept, Integer, Text, Fixed, Other, Toks}
-use Rattle.script_grammar.specs.Trees.{Lit, Number, Quote, True, False, Null, Undefined, Ex, Literal, Var, Round, ListOf, Object, Member, Unary, Chain, Choice}
-use Rattle.script_grammar.specs.Spelling.{spell_lit, spell_ex, spell_suffix, spell_suffixes, spell_links}
+use Rattle.script_grammar.specs.Trees.{Lit, Number, Quote, True, False, Null, Undefined, Ex, Literal, Var, Round, ListOf, Object, New, Apply, FromKeys, Member, Unary, Chain, Choice}
+use Rattle.script_grammar.specs.Spelling.{spell_builtin, spell_lit, spell_ex, spell_suffix, spell_suffixes, spell_links}
 use Rattle.script_grammar.specs.Rules.{level_of, is_unary, Binds, opens_brace}
-use Rattle.script_parser.specs.Tests.{is_some, sees, sees_word, begins_suffix, begins_link, in_block, ExprForm, stmt_form, PlainForm, item_form}
+use Rattle.script_parser.specs.Tests.{is_some, sees, sees_word, begins_suffix, begins_link, in_block, in_body, ExprForm, stmt_form, PlainForm, item_form}
 
 -- the first level of which a token goes on with an expression; 8 where it goes on with none
 abbrev pub stop : Option Tok → ℕ
 stop (Some (Fixed Point)) = 0
 stop (Some (Fixed OpenSquare)) = 0
+stop (Some (Fixed OpenRound)) = 0
 stop (Some (Fixed Same)) = 4
 stop (Some (Fixed NotSame)) = 4
 stop (Some (Fixed AtMost)) = 3
@@ -65,12 +68,24 @@ stop_link Not h = absurd (omega (arith, h))
 pub no_suffix : (t : Tok) → 0 < stop (Some t) → begins_suffix t ≡ false
 no_suffix (Fixed Point) h = absurd (omega (arith, h))
 no_suffix (Fixed OpenSquare) h = absurd (omega (arith, h))
+no_suffix (Fixed OpenRound) h = absurd (omega (arith, h))
 no_suffix (Fixed _) h = refl
 no_suffix (Name at bytes) h = refl
 no_suffix (Kept r) h = refl
 no_suffix (Integer n) h = refl
 no_suffix Other h = refl
 no_suffix (Text bytes) h = refl
+
+-- a bracket would call what stands before it
+pub no_call : (c : Option Tok) → 0 < stop c → sees OpenRound c ≡ false
+no_call None h = refl
+no_call (Some (Fixed OpenRound)) h = absurd (omega (arith, h))
+no_call (Some (Fixed _)) h = refl
+no_call (Some (Name at bytes)) h = refl
+no_call (Some (Kept r)) h = refl
+no_call (Some (Integer n)) h = refl
+no_call (Some Other) h = refl
+no_call (Some (Text bytes)) h = refl
 
 pub no_link : (k : ℕ) (t : Tok) → k < 6 → suc k < stop (Some t) → begins_link k t ≡ false
 no_link k (Name at bytes) l h = refl
@@ -107,6 +122,12 @@ starts (Kept kept.True) = true
 starts (Kept kept.False) = true
 starts (Kept kept.Null) = true
 starts (Kept kept.Undefined) = true
+starts (Kept kept.New) = true
+starts (Kept kept.Original) = true
+starts (Kept kept.Current) = true
+starts (Kept kept.IsDraft) = true
+starts (Kept kept.Object) = true
+starts (Kept kept.Array) = true
 starts (Kept _) = false
 starts (Fixed OpenRound) = true
 starts (Fixed OpenSquare) = true
@@ -161,12 +182,24 @@ starts_lit False = refl
 starts_lit Null = refl
 starts_lit Undefined = refl
 
+-- a function of the language begins an expression
+pub front_builtin : (f : Builtin) (ts : Toks) → Front (spell_builtin f ++ ts)
+front_builtin builtin.Original ts = (_, _, refl, refl)
+front_builtin builtin.Current ts = (_, _, refl, refl)
+front_builtin builtin.IsDraft ts = (_, _, refl, refl)
+front_builtin (builtin.Keys at) ts = (_, _, refl, refl)
+front_builtin (builtin.IsArray at) ts = (_, _, refl, refl)
+front_builtin (builtin.From at) ts = (_, _, refl, refl)
+
 pub begun : (e : Ex) (l : ℕ) → Binds l e → Front (spell_ex e)
 begun (Literal l) k b = (spell_lit l, [], refl, starts_lit l)
 begun (Var at bytes) k b = (_, _, refl, refl)
 begun (Round e) k b = (_, _, refl, refl)
 begun (ListOf es) k b = (_, _, refl, refl)
 begun (Object ps) k b = (_, _, refl, refl)
+begun (New c) k b = (_, _, refl, refl)
+begun (Apply f e) k b = front_builtin f (Fixed OpenRound ∷ (spell_ex e ++ Fixed CloseRound ∷ []))
+begun (FromKeys at e j) k b = (_, _, refl, refl)
 begun (Member e s ss) k b = front_more (spell_ex e) (spell_suffix s ++ spell_suffixes ss) (begun e 0 b.1)
 begun (Unary s e) k b = (Fixed s, spell_ex e, refl, starts_unary s b.1)
 begun (Chain j x s y ls) k b = front_more (spell_ex x) (Fixed s ∷ (spell_ex y ++ spell_links ls)) (begun x (suc j) b.2)
@@ -190,6 +223,24 @@ no_close_brace (Text bytes) h = refl
 no_close_brace (Fixed CloseBrace) h = absurd cc
 no_close_brace (Fixed _) h = refl
 
+pub no_ellipsis : (t : Tok) → starts t ≡ true → sees Ellipsis (Some t) ≡ false
+no_ellipsis (Name at bytes) h = refl
+no_ellipsis (Kept r) h = refl
+no_ellipsis (Integer n) h = refl
+no_ellipsis Other h = refl
+no_ellipsis (Text bytes) h = refl
+no_ellipsis (Fixed Ellipsis) h = absurd cc
+no_ellipsis (Fixed _) h = refl
+
+pub no_close_round : (t : Tok) → starts t ≡ true → sees CloseRound (Some t) ≡ false
+no_close_round (Name at bytes) h = refl
+no_close_round (Kept r) h = refl
+no_close_round (Integer n) h = refl
+no_close_round Other h = refl
+no_close_round (Text bytes) h = refl
+no_close_round (Fixed CloseRound) h = absurd cc
+no_close_round (Fixed _) h = refl
+
 pub no_semicolon : (t : Tok) → starts t ≡ true → sees Semicolon (Some t) ≡ false
 no_semicolon (Name at bytes) h = refl
 no_semicolon (Kept r) h = refl
@@ -198,15 +249,6 @@ no_semicolon Other h = refl
 no_semicolon (Text bytes) h = refl
 no_semicolon (Fixed Semicolon) h = absurd cc
 no_semicolon (Fixed _) h = refl
-
-pub no_new : (t : Tok) → starts t ≡ true → sees_word kept.New (Some t) ≡ false
-no_new (Name at bytes) h = refl
-no_new (Integer n) h = refl
-no_new Other h = refl
-no_new (Text bytes) h = refl
-no_new (Fixed s) h = refl
-no_new (Kept kept.New) h = absurd cc
-no_new (Kept _) h = refl
 
 pub no_else : (t : Tok) → starts t ≡ true → sees_word kept.Else (Some t) ≡ false
 no_else (Name at bytes) h = refl
@@ -235,6 +277,10 @@ expr_form (Fixed OpenBrace) h b = absurd cc
 expr_form (Fixed Semicolon) h b = absurd cc
 expr_form (Fixed _) h b = refl
 expr_form (Kept kept.If) h b = absurd cc
+expr_form (Kept kept.For) h b = absurd cc
+expr_form (Kept kept.Switch) h b = absurd cc
+expr_form (Kept kept.Break) h b = absurd cc
+expr_form (Kept kept.Continue) h b = absurd cc
 expr_form (Kept kept.Return) h b = absurd cc
 expr_form (Kept kept.Throw) h b = absurd cc
 expr_form (Kept kept.Delete) h b = absurd cc
@@ -258,3 +304,14 @@ starts_in_block (Text bytes) h = refl
 starts_in_block (Kept r) h = refl
 starts_in_block (Fixed CloseBrace) h = absurd cc
 starts_in_block (Fixed _) h = refl
+
+pub starts_in_body : (t : Tok) → starts t ≡ true → in_body t ≡ true
+starts_in_body (Name at bytes) h = refl
+starts_in_body (Integer n) h = refl
+starts_in_body Other h = refl
+starts_in_body (Text bytes) h = refl
+starts_in_body (Kept kept.Case) h = absurd cc
+starts_in_body (Kept kept.Default) h = absurd cc
+starts_in_body (Kept _) h = refl
+starts_in_body (Fixed CloseBrace) h = absurd cc
+starts_in_body (Fixed _) h = refl

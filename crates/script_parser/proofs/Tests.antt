@@ -2,6 +2,13 @@
 use Rattle.std.proofs.Common.{◌≡◌, ℕ, Bool, true, false, List, Some, None, refl, sym, ap, subst, ◌∙◌, slice_index_or, eq-eqb}
 use Rattle.std.specs.Prelude.{if◌then◌else◌, ◌==◌}
 use Rattle.std.proofs.lemmas.Bool.{eqb-true}
+use Rattle.std.proofs.lemmas.Slice.Eq.{bytes_eq-Decides}
+use Rattle.std.specs.Prelude.{Option}
+use Rattle.std.specs.Str.{bytes_eq}
+use Rattle.script_grammar.specs.declared.Container.{Container}
+use Rattle.script_grammar.specs.declared.Container.TheVariants as container
+use Rattle.script_grammar.specs.declared.Compound.{Compound}
+use Rattle.script_grammar.specs.declared.Compound.TheVariants as compound
 use Rattle.script_text.specs.declared.sign.Sign.{Sign}
 use Rattle.script_text.specs.declared.sign.Sign.TheVariants.{Same, NotSame, AtMost, AtLeast, And, Or, PlusAssign, MinusAssign, StarAssign, PercentAssign, Ellipsis, OpenRound, CloseRound, OpenBrace, CloseBrace, OpenSquare, CloseSquare, Comma, Semicolon, Colon, Dot, Question, Assign, Less, Greater, Plus, Minus, Star, Percent, Not}
 use Rattle.script_text.specs.declared.word.Reserved.{Reserved}
@@ -10,9 +17,9 @@ use Rattle.script_text.specs.Signs.{signs}
 use Rattle.script_text.specs.Words.{words, word_code}
 use Rattle.script_grammar.specs.Tokens.{Tok, Name, Kept, Integer, Text, Fixed, Other}
 use Rattle.script_grammar.specs.Trees.{Lit, Number, Quote, True, False, Null, Undefined, Word, Named, Reserve}
-use Rattle.script_grammar.specs.Spelling.{spell_lit, spell_word}
+use Rattle.script_grammar.specs.Spelling.{spell_lit, spell_word, spell_container, compound_sign, declaring, is_array_word, from_word}
 use Rattle.script_grammar.specs.Rules.{level_of, is_unary}
-use Rattle.script_parser.specs.Tests.{code, fixed, kept_as, name_of, text_of, word_of, lit_of, unary_of, link_of}
+use Rattle.script_parser.specs.Tests.{code, fixed, kept_as, name_of, text_of, word_of, lit_of, unary_of, link_of, container_of, called, array_of, declaring_of, assign_of}
 
 decode : ℕ → Sign
 decode n = slice_index_or signs n Same
@@ -207,6 +214,77 @@ of_link k (Integer m) s e = absurd cc
 of_link k Other s e = absurd cc
 of_link k (Text bytes) s e = absurd cc
 
+some_same : {A : Type 0} (a b : A) → Some a ≡ Some b → a ≡ b
+some_same a b e = cc
+
+pub of_container : (t : Tok) (c : Container) → container_of t ≡ Some c → t ≡ spell_container c
+of_container (Kept kept.Map) c e = ap spell_container (some_same container.Map c e)
+of_container (Kept kept.Set) c e = ap spell_container (some_same container.Set c e)
+of_container (Kept _) c e = absurd cc
+of_container (Name at bytes) c e = absurd cc
+of_container (Integer n) c e = absurd cc
+of_container Other c e = absurd cc
+of_container (Text bytes) c e = absurd cc
+of_container (Fixed s) c e = absurd cc
+
+pub of_called : (w : List ℕ) (t : Tok) (at : ℕ) → called w t ≡ Some at → t ≡ Name at w
+of_called w (Name k bytes) at e = go (bytes_eq bytes w) refl e
+  where
+    go : (b : Bool) → bytes_eq bytes w ≡ b → (if b then Some k else None) ≡ Some at → Name k bytes ≡ Name at w
+    go true h e = let same = some_same k at e in let word : bytes ≡ w = (bytes_eq-Decides bytes w).0 h in rw (same, word) refl
+    go false h e = absurd cc
+of_called w (Kept r) at e = absurd cc
+of_called w (Integer n) at e = absurd cc
+of_called w Other at e = absurd cc
+of_called w (Text bytes) at e = absurd cc
+of_called w (Fixed s) at e = absurd cc
+
+-- the word of a function of `Array`
+abbrev pub array_word : Bool → List ℕ
+array_word true = is_array_word
+array_word false = from_word
+
+pub of_array : (t : Tok) (p : Bool × ℕ) → array_of t ≡ Some p → t ≡ Name p.1 (array_word p.0)
+of_array (Name k bytes) p e = go (bytes_eq bytes is_array_word) refl (bytes_eq bytes from_word) refl e
+  where
+    go : (b : Bool) → bytes_eq bytes is_array_word ≡ b → (c : Bool) → bytes_eq bytes from_word ≡ c → (if b then Some (true, k) else (if c then Some (false, k) else None)) ≡ Some p → Name k bytes ≡ Name p.1 (array_word p.0)
+    go true h c i e = let same = some_same (true, k) p e in let word : bytes ≡ is_array_word = (bytes_eq-Decides bytes is_array_word).0 h in rw (← same, word) refl
+    go false h true i e = let same = some_same (false, k) p e in let word : bytes ≡ from_word = (bytes_eq-Decides bytes from_word).0 i in rw (← same, word) refl
+    go false h false i e = absurd cc
+of_array (Kept r) p e = absurd cc
+of_array (Integer n) p e = absurd cc
+of_array Other p e = absurd cc
+of_array (Text bytes) p e = absurd cc
+of_array (Fixed s) p e = absurd cc
+
+pub of_declaring : (t : Tok) (k : Bool) → declaring_of t ≡ Some k → t ≡ Kept (declaring k)
+of_declaring (Kept kept.Const) k e = ap (λ (k : Bool). Kept (declaring k)) (some_same true k e)
+of_declaring (Kept kept.Let) k e = ap (λ (k : Bool). Kept (declaring k)) (some_same false k e)
+of_declaring (Kept _) k e = absurd cc
+of_declaring (Name at bytes) k e = absurd cc
+of_declaring (Integer n) k e = absurd cc
+of_declaring Other k e = absurd cc
+of_declaring (Text bytes) k e = absurd cc
+of_declaring (Fixed s) k e = absurd cc
+
+-- the sign of an assignment
+abbrev pub assign_sign : Option Compound → Sign
+assign_sign None = Assign
+assign_sign (Some c) = compound_sign c
+
+pub of_assign : (t : Tok) (o : Option Compound) → assign_of t ≡ Some o → t ≡ Fixed (assign_sign o)
+of_assign (Fixed Assign) o e = ap (λ (o : Option Compound). Fixed (assign_sign o)) (some_same None o e)
+of_assign (Fixed PlusAssign) o e = ap (λ (o : Option Compound). Fixed (assign_sign o)) (some_same (Some compound.Add) o e)
+of_assign (Fixed MinusAssign) o e = ap (λ (o : Option Compound). Fixed (assign_sign o)) (some_same (Some compound.Subtract) o e)
+of_assign (Fixed StarAssign) o e = ap (λ (o : Option Compound). Fixed (assign_sign o)) (some_same (Some compound.Multiply) o e)
+of_assign (Fixed PercentAssign) o e = ap (λ (o : Option Compound). Fixed (assign_sign o)) (some_same (Some compound.Remainder) o e)
+of_assign (Fixed _) o e = absurd cc
+of_assign (Name at bytes) o e = absurd cc
+of_assign (Kept r) o e = absurd cc
+of_assign (Integer n) o e = absurd cc
+of_assign Other o e = absurd cc
+of_assign (Text bytes) o e = absurd cc
+
 -- ---- and the other way round
 pub is_fixed : (s : Sign) → fixed s (Fixed s) ≡ Some tt
 is_fixed Same = refl
@@ -309,3 +387,22 @@ is_unary_sign s e = rw e refl
 
 pub is_link : (k : ℕ) (s : Sign) → level_of s ≡ k → link_of k (Fixed s) ≡ Some s
 is_link k s e = let f : (level_of s == k) ≡ true = eq-eqb (level_of s) k e in rw f refl
+
+pub is_container : (c : Container) → container_of (spell_container c) ≡ Some c
+is_container container.Map = refl
+is_container container.Set = refl
+
+pub is_array : (b : Bool) (at : ℕ) → array_of (Name at (array_word b)) ≡ Some (b, at)
+is_array true at = refl
+is_array false at = refl
+
+pub is_declaring : (k : Bool) → declaring_of (Kept (declaring k)) ≡ Some k
+is_declaring true = refl
+is_declaring false = refl
+
+pub is_assign : (o : Option Compound) → assign_of (Fixed (assign_sign o)) ≡ Some o
+is_assign None = refl
+is_assign (Some compound.Add) = refl
+is_assign (Some compound.Subtract) = refl
+is_assign (Some compound.Multiply) = refl
+is_assign (Some compound.Remainder) = refl
