@@ -1,8 +1,9 @@
 //! The shape of expressions.
 
 use crate::shape::Shape;
+use script_grammar::{Builtin, Container};
 use script_text::Sign;
-use script_tree::{Access, Expr, Label};
+use script_tree::{Access, Expr, Key, Label, NameKey, Target};
 use sqlite_items::Items;
 use std::alloc::AllocError;
 
@@ -17,16 +18,30 @@ impl Shape<'_> {
             }
             Expr::List(items, _) => {
                 self.text("(list")?;
-                self.exprs(items.as_slice())?;
+                self.elements(items.as_slice())?;
             }
             Expr::Object(items, _) => {
                 self.text("(object")?;
-                self.props(items.as_slice())?;
+                self.parts(items.as_slice())?;
             }
-            Expr::Member(base, accesses) => {
+            Expr::New(container) => {
+                self.text("(new ")?;
+                self.text(container_word(container))?;
+            }
+            Expr::Apply(builtin, argument) => {
+                self.text("(")?;
+                self.text(builtin_word(builtin))?;
+                self.text(" ")?;
+                self.expr(argument.get())?;
+            }
+            Expr::FromKeys(_, map, _) => {
+                self.text("(from-keys ")?;
+                self.expr(map.get())?;
+            }
+            Expr::Member(base, steps) => {
                 self.text("(get ")?;
                 self.expr(base.get())?;
-                self.accesses(accesses.as_slice())?;
+                self.steps(steps.as_slice())?;
             }
             Expr::Unary(sign, operand) => {
                 self.text("(")?;
@@ -55,7 +70,7 @@ impl Shape<'_> {
     /// An expression that holds no other.
     fn literal(&mut self, e: &Expr) -> Result<(), AllocError> {
         match e {
-            Expr::Number(n) => { self.number(n.get()) }
+            Expr::Number(n) => self.number(n.get()),
             Expr::Text(text) => {
                 self.text("'")?;
                 self.bytes(text.as_str().as_bytes())?;
@@ -69,50 +84,92 @@ impl Shape<'_> {
     }
 
     #[cycle(expressions)]
-    fn exprs(&mut self, items: &[Expr]) -> Result<(), AllocError> {
+    fn elements(&mut self, items: &[(bool, Expr)]) -> Result<(), AllocError> {
         for e in items {
-            self.text(" ")?;
-            self.expr(e)?;
+            self.text(if e.0 { " ..." } else { " " })?;
+            self.expr(&e.1)?;
         }
         Ok(())
     }
 
     #[cycle(expressions)]
-    fn props(&mut self, items: &[(Label, Expr)]) -> Result<(), AllocError> {
+    fn parts(&mut self, items: &[(Label, Items<Expr>)]) -> Result<(), AllocError> {
         for p in items {
-            self.text(" (")?;
-            self.key(&p.0, &p.1)?;
-            self.text(" ")?;
-            self.expr(&p.1)?;
-            self.text(")")?;
+            self.begin_part(&p.0)?;
+            for e in p.1.as_slice() {
+                self.expr(e)?;
+            }
+            self.end_part(&p.0)?;
         }
         Ok(())
     }
 
-    /// A key; a name that stands alone is both key and value.
-    fn key(&mut self, label: &Label, value: &Expr) -> Result<(), AllocError> {
-        if let Label::Short = label
-            && let Expr::Name(name) = value
-        {
-            return self.bytes(name.text.as_slice());
+    /// What stands before the value of a part of an object literal.
+    fn begin_part(&mut self, label: &Label) -> Result<(), AllocError> {
+        match label {
+            Label::Spread => self.text(" ..."),
+            Label::Word(word) => {
+                self.text(" (")?;
+                self.word(word)?;
+                self.text(" ")
+            }
+            Label::Quoted(text) => {
+                self.text(" (")?;
+                self.bytes(text.as_str().as_bytes())?;
+                self.text(" ")
+            }
+            Label::Short(key) => {
+                self.text(" (")?;
+                self.name_key(key)?;
+                self.text(" ")
+            }
         }
-        self.label(label)
+    }
+
+    /// What stands behind it; a name that stands alone is key and value.
+    fn end_part(&mut self, label: &Label) -> Result<(), AllocError> {
+        match label {
+            Label::Spread => Ok(()),
+            Label::Short(NameKey::Text(at, text)) => {
+                self.used_at(*at, text.as_str().as_bytes())?;
+                self.text(")")
+            }
+            Label::Short(NameKey::Long(name)) => {
+                self.used(name)?;
+                self.text(")")
+            }
+            _ => self.text(")"),
+        }
     }
 
     #[cycle(expressions)]
-    fn accesses(&mut self, accesses: &[(Access, Items<Expr>)]) -> Result<(), AllocError> {
-        for a in accesses {
-            if let Access::Dot(label) = &a.0 {
-                self.text(" .")?;
-                self.label(label)?;
-            }
+    fn steps(&mut self, steps: &[(Access, Items<Expr>)]) -> Result<(), AllocError> {
+        for a in steps {
+            self.begin_step(&a.0)?;
+            let mut first = true;
             for e in a.1.as_slice() {
-                self.text(" [")?;
+                self.text(if first { "" } else { " " })?;
+                first = false;
                 self.expr(e)?;
-                self.text("]")?;
             }
+            self.text(end_of_step(&a.0))?;
         }
         Ok(())
+    }
+
+    fn begin_step(&mut self, access: &Access) -> Result<(), AllocError> {
+        match access {
+            Access::Dot(word) => {
+                self.text(" .")?;
+                self.word(word)
+            }
+            Access::Index => self.text(" ["),
+            Access::Call(_, method) => {
+                self.text(" .")?;
+                self.text(method.text())?;
+                self.text("(")
+            }
+        }
     }
 
     #[cycle(expressions)]
@@ -124,5 +181,66 @@ impl Shape<'_> {
             self.expr(&link.1)?;
         }
         Ok(())
+    }
+
+    /// A member, as its object and the last step to it: the steps of the object, where it has any, stand before.
+    pub fn part(&mut self, e: &Expr, key: &Key) -> Result<(), AllocError> {
+        self.text("(get ")?;
+        match e {
+            Expr::Member(base, steps) => {
+                self.expr(base.get())?;
+                self.steps(steps.as_slice())?;
+            }
+            _ => self.expr(e)?,
+        }
+        self.key(key)?;
+        self.text(")")
+    }
+
+    fn key(&mut self, key: &Key) -> Result<(), AllocError> {
+        match key {
+            Key::Dot(word) => {
+                self.text(" .")?;
+                self.word(word)
+            }
+            Key::Index(e) => {
+                self.text(" [")?;
+                self.expr(e)?;
+                self.text("]")
+            }
+        }
+    }
+
+    pub fn target(&mut self, t: &Target) -> Result<(), AllocError> {
+        match t {
+            Target::Name(name) => self.used(name),
+            Target::Member(e, key) => self.part(e, key),
+        }
+    }
+}
+
+fn end_of_step(access: &Access) -> &'static str {
+    match access {
+        Access::Dot(_) => "",
+        Access::Index => "]",
+        Access::Call(_, _) => ")",
+    }
+}
+
+fn container_word(container: &Container) -> &'static str {
+    match container {
+        Container::Map => "Map",
+        Container::Set => "Set",
+    }
+}
+
+fn builtin_word(builtin: &Builtin) -> &'static str {
+    match builtin {
+        Builtin::Original => "original",
+        Builtin::Current => "current",
+        Builtin::IsDraft => "isDraft",
+        Builtin::Keys(_) => "keys",
+        Builtin::IsArray(_) => "isArray",
+        Builtin::From(_) => "from",
     }
 }

@@ -1,5 +1,5 @@
 //! What scripts are: each line of the input is one, and is answered by the shape of its program, or by its first fault and
-//! where that is. A line that begins with `#` is a remark.
+//! where that is. A vertical tab in a line stands for a line's end. A line that begins with `#` is a remark.
 #![tactic(auto)]
 
 use js_lex::{LexFault, Tokens, lex};
@@ -70,12 +70,22 @@ fn answer(alloc: Global, source: &[u8]) -> Result<String, AllocError> {
     }
 }
 
+/// The script of a line.
+fn script_of(alloc: Global, line: &[u8]) -> Result<Vec<u8>, AllocError> {
+    let mut source = Vec::new(alloc);
+    for byte in line {
+        source.push(if *byte == 0x0b { b'\n' } else { *byte })?;
+    }
+    Ok(source)
+}
+
 fn main(rt: HostRuntime) -> anyhow::Result<()> {
     let alloc = rt.alloc();
-    for line in BufReader::new(alloc, rt.reader())?.lines(alloc) {
+    for line in BufReader::new(alloc, rt.reader())?.split(alloc, b'\n') {
         let line = line?;
-        if !line.starts_with('#') {
-            println!(rt; "{}", answer(alloc, line.as_bytes())?)?;
+        if line.first() != Some(&b'#') {
+            let source = script_of(alloc, line.as_slice())?;
+            println!(rt; "{}", answer(alloc, source.as_slice())?)?;
         }
     }
     Ok(())

@@ -1,7 +1,7 @@
 //! The shape of a program as text.
 
 use script_text::Token;
-use script_tree::{Label, Name, Reducer};
+use script_tree::{Name, NameKey, Reducer, Word};
 use std::alloc::{AllocError, Global};
 
 /// The text so far, and the names that are still to come.
@@ -78,10 +78,14 @@ impl<'a> Shape<'a> {
 
     /// A use, with the place where its declaration names it.
     pub fn used(&mut self, name: &Name) -> Result<(), AllocError> {
-        self.bytes(name.text.as_slice())?;
+        self.used_at(name.at, name.text.as_slice())
+    }
+
+    pub fn used_at(&mut self, at: usize, name: &[u8]) -> Result<(), AllocError> {
+        self.bytes(name)?;
         self.text("@")?;
         match self.next() {
-            Some((token, declaration)) if token == name.at => {
+            Some((token, declaration)) if token == at => {
                 let at = self.offset(declaration);
                 self.number(i64::try_from(at).unwrap_or(-1))
             }
@@ -102,12 +106,17 @@ impl<'a> Shape<'a> {
         }
     }
 
-    pub fn label(&mut self, label: &Label) -> Result<(), AllocError> {
-        match label {
-            Label::Name(name) => self.bytes(name.text.as_slice()),
-            Label::Reserved(word) => self.text(word.text()),
-            Label::Quoted(text) => self.bytes(text.as_str().as_bytes()),
-            Label::Short => self.text("?"),
+    pub fn word(&mut self, word: &Word) -> Result<(), AllocError> {
+        match word {
+            Word::Name(key) => self.name_key(key),
+            Word::Reserved(word) => self.text(word.text()),
+        }
+    }
+
+    pub fn name_key(&mut self, key: &NameKey) -> Result<(), AllocError> {
+        match key {
+            NameKey::Text(_, text) => self.bytes(text.as_str().as_bytes()),
+            NameKey::Long(name) => self.bytes(name.text.as_slice()),
         }
     }
 
