@@ -19,7 +19,7 @@ impl<'a> Scopes<'a> {
     ghost use Rattle.script_names.specs.Environments.{empty, bind};
     ghost use Rattle.js_uses.specs.Scopes.{env_of, put, back, Adds};
 
-    /// No name stands for anything.
+    /// No name stands for anything. Nothing is allocated.
     pub fn new(alloc: Global) -> Scopes<'a>
         ensures { env_of result ≡ empty }
     {
@@ -29,7 +29,7 @@ impl<'a> Scopes<'a> {
         }
     }
 
-    /// What the name stands for.
+    /// What the name stands for; `None` where it stands for nothing.
     pub fn bound(&self, name: &[u8]) -> Option<Binding>
         ensures { result ≡ env_of self.now name.now }
     {
@@ -52,7 +52,8 @@ impl<'a> Scopes<'a> {
         Ok(())
     }
 
-    /// Binds a name.
+    /// From here on the name stands for this, until the end of the scope. `AllocError` where memory ran out; the scopes are then
+    /// only good to be dropped.
     pub fn bind(&mut self, name: &'a [u8], binding: Binding) -> Result<(), AllocError>
         ensures env { OnOk result (env_of self.new ≡ bind (env_of self.old) name.now binding) }
         ensures adds { OnOk result (Adds self.old self.new) }
@@ -70,7 +71,8 @@ impl<'a> Scopes<'a> {
         self.trail.len()
     }
 
-    /// Where a scope ends that began at this mark: each name stands for what it stood for there.
+    /// Where a scope ends that began at this mark: each name stands for what it stood for there. `AllocError` where memory ran
+    /// out; the scopes are then only good to be dropped.
     pub fn leave(&mut self, mark: usize) -> Result<(), AllocError>
         requires { mark ≤ length self.old.trail.items }
         ensures env { OnOk result (env_of self.new ≡ back (drop mark self.old.trail.items) (env_of self.old)) }
