@@ -235,11 +235,7 @@ impl<'a> Pass<'a> {
 
     /// The statements of one of them.
     #[cycle(items)]
-    fn case_items(
-        &mut self,
-        cases: &'a [(Expr, Items<Stmt>)],
-        at: usize,
-    ) -> Result<(), NameFault>
+    fn case_items(&mut self, cases: &'a [(Expr, Items<Stmt>)], at: usize) -> Result<(), NameFault>
         requires { at < length cases.now }
         ensures judges { Judges self.old.found.items (all_judged (env_of self.old.scopes) (case_at cases.now at).1) result self.new.found.items }
         ensures adds { OnOk result (Adds self.old.scopes self.new.scopes) }

@@ -34,7 +34,11 @@ impl Shape<'_> {
                 }
             }
             Stmt::For(constant, name, e, body) => {
-                self.text(if *constant { "(for const " } else { "(for let " })?;
+                self.text(if *constant {
+                    "(for const "
+                } else {
+                    "(for let "
+                })?;
                 self.declared(name)?;
                 self.text(" ")?;
                 self.expr(e)?;

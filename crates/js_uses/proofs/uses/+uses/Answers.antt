@@ -250,4 +250,3 @@ operands-returns-in_err-read_names t c =
     let env = env_of c.args.scopes.now in
     let b = c.read_names.new.found.items in
     loop_exit (link_reads env) (all_links env) (λ x xs. refl) c.args.links.now c.loop-link.link-index c.link-item.result c.loop-link-test.true c.link-item.is c.args.found.now.items c.loop-link.found.items b b c.in_err-read_names.field-0.0 c.from_residual.result (err_from_is_err_and c.from_residual.result c.from_residual.ensures.1) c.in_err-read_names.ensures c.loop-link.invariant
-
