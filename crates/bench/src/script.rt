@@ -17,6 +17,12 @@ fn push_reducer(alloc: Global, out: &mut String, number: u32) -> Result<(), Allo
         "  if (action.n > 10 && action.n <= 20) { state.n = state.n + action.n * 2; } else next.on = false;\n",
     )?;
     out.push_str("  state.list[action.index % 50] = next.id > 100 ? item : next;\n")?;
+    out.push_str(
+        "  for (const each of state.list) { if (each.id === action.id) { each.tags.push(next.id, [...each.tags]); break; } }\n",
+    )?;
+    out.push_str(
+        "  switch (state.n % 3) { case 0: state.n += 1; break; case 1: state.all.set(next.id, {...next}); default: state.n *= 2; }\n",
+    )?;
     out.push_str("  delete state.last;\n  return state;\n}\n")
 }
 
@@ -24,7 +30,7 @@ fn push_reducer(alloc: Global, out: &mut String, number: u32) -> Result<(), Allo
 fn sample(alloc: Global, size: usize) -> Result<String, AllocError> {
     let mut out = String::new(alloc);
     for number in 0..1_000_000 {
-        if out.len().saturating_add(700) > size {
+        if out.len().saturating_add(900) > size {
             break;
         }
         push_reducer(alloc, &mut out, number)?;
