@@ -3,7 +3,6 @@
 
 mod index;
 mod program;
-mod statements;
 
 pub use index::Index;
 pub use program::{Names, resolve};

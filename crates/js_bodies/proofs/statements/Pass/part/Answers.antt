@@ -4,9 +4,9 @@ use Rattle.script_tree.specs.View.{view, key_view}
 use Rattle.script_names.specs.Names.{reads, reads_part}
 use Rattle.js_uses.specs.Scopes.{env_of}
 use Rattle.js_uses.proofs.Reading.{judges_on, judges_as, exit_stop}
-use Rattle.js_names.specs.Judging.{key_reads}
-use Rattle.js_names.proofs.Going.{in_part}
-use Rattle.js_names.proofs.statements.Pass.part.Goals as goal
+use Rattle.js_bodies.specs.Judging.{key_reads}
+use Rattle.js_bodies.proofs.Going.{in_part}
+use Rattle.js_bodies.proofs.statements.Pass.part.Goals as goal
 
 pub returns-in_err-expr-clause-judges : goal.returns-in_err-expr-clause-judges
 returns-in_err-expr-clause-judges c =

@@ -3,9 +3,9 @@ use Rattle.script_names.specs.Names.{declare}
 use Rattle.script_names.specs.declared.Binding.TheVariants.{Variable}
 use Rattle.script_names.specs.Environments.{bind}
 use Rattle.js_uses.specs.Scopes.{env_of}
-use Rattle.js_names.specs.Program.{param_judged}
+use Rattle.js_bodies.specs.Reducers.{param_judged}
 use Rattle.js_uses.proofs.Reading.{judges_on, judges_as}
-use Rattle.js_names.proofs.statements.Pass.parameters.Goals as goal
+use Rattle.js_bodies.proofs.statements.Pass.parameters.Goals as goal
 
 pub returns-in-Some-clause-judges : goal.returns-in-Some-clause-judges
 returns-in-Some-clause-judges c =

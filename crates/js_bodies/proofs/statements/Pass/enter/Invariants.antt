@@ -1,8 +1,8 @@
 use Rattle.std.proofs.Common.{◌≡◌, drop}
 use Rattle.script_names.specs.Environments.{enter}
 use Rattle.js_uses.specs.Scopes.{env_of, Adds}
-use Rattle.js_names.proofs.Going.{names_at}
-use Rattle.js_names.proofs.statements.Pass.enter.Given as goal
+use Rattle.js_bodies.proofs.Going.{names_at}
+use Rattle.js_bodies.proofs.statements.Pass.enter.Given as goal
 
 abbrev pub invariant-loop-s : goal.invariant-loop-s
 invariant-loop-s l = record {

@@ -6,8 +6,8 @@ use Rattle.script_tree.specs.declared.Stmt.TheShapes.{weighed-Stmt-Switch-1-at-3
 use Rattle.script_tree.proofs.Stmt.TheLaws.{the_size}
 use Rattle.js_uses.specs.Scopes.{env_of, Adds}
 use Rattle.js_uses.specs.Judging.{so_far}
-use Rattle.js_names.specs.Judging.{all_judged, cases_judged, Keeps}
-use Rattle.js_names.proofs.statements.Pass.+items.Given as goal
+use Rattle.js_bodies.specs.Judging.{all_judged, cases_judged, Keeps}
+use Rattle.js_bodies.proofs.statements.Pass.+items.Given as goal
 
 abbrev pub invariant-items-loop-s : goal.invariant-items-loop-s
 invariant-items-loop-s l = record {

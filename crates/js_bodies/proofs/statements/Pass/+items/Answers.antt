@@ -9,9 +9,9 @@ use Rattle.script_names.specs.Names.{reads, reads_part, declare, binding, head, 
 use Rattle.js_uses.specs.Scopes.{env_of, Adds}
 use Rattle.js_uses.specs.Judging.{so_far}
 use Rattle.js_uses.proofs.Reading.{judges_on, judges_as, judges_exit, exit_stop, loop_at, exit_at}
-use Rattle.js_names.specs.Judging.{all_judged, loop_judged, no_case, case_at, case_judged, cases_judged, Keeps}
-use Rattle.js_names.proofs.Going.{adds_none, adds_on, items_on, items_exit, keeps_none, keeps_on, keeps_left, names_at, inner_judged, in_const, in_throw, in_delete, in_block, in_if, other_judged, in_for, in_switch, in_switch_else, after_block, after_if, after_for, after_switch, after_switch_else}
-use Rattle.js_names.proofs.statements.Pass.+items.Goals as goal
+use Rattle.js_bodies.specs.Judging.{all_judged, loop_judged, no_case, case_at, case_judged, cases_judged, Keeps}
+use Rattle.js_bodies.proofs.Going.{adds_none, adds_on, items_on, items_exit, keeps_none, keeps_on, keeps_left, names_at, inner_judged, in_const, in_throw, in_delete, in_block, in_if, other_judged, in_for, in_switch, in_switch_else, after_block, after_if, after_for, after_switch, after_switch_else}
+use Rattle.js_bodies.proofs.statements.Pass.+items.Goals as goal
 
 -- ---- statements, one after the other
 pub items-loop-s-init : goal.items-loop-s-init

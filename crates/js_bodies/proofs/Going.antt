@@ -22,7 +22,7 @@ use Rattle.js_uses.specs.Scopes.{Adds, back, env_of}
 use Rattle.js_uses.specs.Judging.{Found, Judges, so_far}
 use Rattle.js_uses.proofs.Trail.{back_append}
 use Rattle.js_uses.proofs.Reading.{map_reads, judges_as, judges_stop, judges_exit, judged_first, judges_moved, loop_on, loop_exit}
-use Rattle.js_names.specs.Judging.{key_reads, declared_name, all_judged, loop_judged, case_judged, no_case, cases_judged, Keeps}
+use Rattle.js_bodies.specs.Judging.{key_reads, declared_name, all_judged, loop_judged, case_judged, no_case, cases_judged, Keeps}
 
 -- ---- scopes
 abbrev declares_first : Option (List ℕ) → List (List ℕ) → List (List ℕ)

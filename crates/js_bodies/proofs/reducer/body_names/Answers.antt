@@ -5,11 +5,11 @@ use Rattle.script_names.specs.Environments.{enter}
 use Rattle.script_names.specs.Names.{judged_body, scope_of, gathered}
 use Rattle.js_uses.specs.Scopes.{env_of}
 use Rattle.js_uses.specs.Judging.{so_far}
-use Rattle.js_names.specs.Judging.{all_judged}
-use Rattle.js_names.specs.Program.{param_judged}
+use Rattle.js_bodies.specs.Judging.{all_judged}
+use Rattle.js_bodies.specs.Reducers.{param_judged}
 use Rattle.js_uses.proofs.Reading.{judges_on, judges_as, judged_first}
-use Rattle.js_names.proofs.Whole.{body_on, gives_exit, fault_of, all_of}
-use Rattle.js_names.proofs.program.body.Goals as goal
+use Rattle.js_bodies.proofs.Bodies.{body_on, gives_exit, fault_of, all_of}
+use Rattle.js_bodies.proofs.reducer.body_names.Goals as goal
 
 pub returns-in_err-items : goal.returns-in_err-items
 returns-in_err-items c =

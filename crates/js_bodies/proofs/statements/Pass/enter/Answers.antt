@@ -1,7 +1,7 @@
 use Rattle.std.proofs.Common.{refl, ◌∙◌}
 use Rattle.js_uses.specs.Scopes.{env_of}
-use Rattle.js_names.proofs.Going.{adds_none, adds_on, enter_some}
-use Rattle.js_names.proofs.statements.Pass.enter.Goals as goal
+use Rattle.js_bodies.proofs.Going.{adds_none, adds_on, enter_some}
+use Rattle.js_bodies.proofs.statements.Pass.enter.Goals as goal
 
 pub loop-s-init : goal.loop-s-init
 loop-s-init c = record { env = refl; adds = adds_none c.args.self.now.scopes; found = refl }

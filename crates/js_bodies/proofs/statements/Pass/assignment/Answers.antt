@@ -4,7 +4,7 @@ use Rattle.script_tree.specs.View.{view, target_view}
 use Rattle.script_names.specs.Names.{reads, writes}
 use Rattle.js_uses.specs.Scopes.{env_of}
 use Rattle.js_uses.proofs.Reading.{judges_on, judges_as, exit_stop}
-use Rattle.js_names.proofs.statements.Pass.assignment.Goals as goal
+use Rattle.js_bodies.proofs.statements.Pass.assignment.Goals as goal
 
 pub returns-in_err-target-clause-judges : goal.returns-in_err-target-clause-judges
 returns-in_err-target-clause-judges c =

@@ -7,7 +7,7 @@ ghost use Rattle.script_names.specs.Environments.{empty, bind, enter};
 ghost use Rattle.script_names.specs.Names.{reads, reads_part, writes, write_as, declare, declares, binding, after, judged};
 ghost use Rattle.js_uses.specs.Scopes.{env_of, Adds};
 ghost use Rattle.js_uses.specs.Judging.{Judges};
-ghost use Rattle.js_names.specs.Judging.{value_reads, key_reads, declared_name, all_judged, loop_judged, case_judged, case_at, cases_judged, Keeps};
+ghost use Rattle.js_bodies.specs.Judging.{value_reads, key_reads, declared_name, all_judged, loop_judged, case_judged, case_at, cases_judged, Keeps};
 
 use js_uses::{NameFault, Scopes, read_names};
 use script_names::{Binding, Cause};

@@ -3,8 +3,8 @@ use Rattle.script_tree.specs.View.{target_view}
 use Rattle.script_names.specs.Names.{writes, write_as}
 use Rattle.js_uses.specs.Scopes.{env_of}
 use Rattle.js_uses.proofs.Reading.{judges_as}
-use Rattle.js_names.proofs.Going.{written}
-use Rattle.js_names.proofs.statements.Pass.target.Goals as goal
+use Rattle.js_bodies.proofs.Going.{written}
+use Rattle.js_bodies.proofs.statements.Pass.target.Goals as goal
 
 pub returns-in-Name-clause-judges : goal.returns-in-Name-clause-judges
 returns-in-Name-clause-judges c =
