@@ -1,7 +1,7 @@
 -- The test for equality holds of equal values, and of no others.
 use Rattle.std.proofs.Common.{◌≡◌, ◌↔◌, Bool, true, false, refl, sym, ap, subst, ◌∙◌, Less, Equal, Greater}
 use Rattle.std.specs.Prelude.{IsTrue, ◌&&◌}
-use Rattle.std.specs.Ordering.{eq_by_cmp, is_eq}
+use Rattle.std.specs.Ordering.{eq_by_cmp, is_eq, ordering_reverse}
 use Rattle.std.specs.declared.cmp.Ordering.{Ordering}
 use Rattle.value_model.specs.declared.key.Key.{Key}
 use Rattle.value_model.specs.declared.kind.Kind.{Kind}
@@ -23,8 +23,13 @@ equal_by Greater h = absurd cc
 key_same : (j k : Key) → eq_by_cmp key_cmp j k ≡ true → j ≡ k
 key_same j k h = key_exact j k (equal_by (key_cmp j k) h)
 
+own_reverse : (o : Ordering) → o ≡ ordering_reverse o → o ≡ Equal
+own_reverse Less h = absurd cc
+own_reverse Equal h = refl
+own_reverse Greater h = absurd cc
+
 key_again : (k : Key) → eq_by_cmp key_cmp k k ≡ true
-key_again k = rw (key_total.refl k) refl
+key_again k = let e : key_cmp k k ≡ Equal = own_reverse (key_cmp k k) (key_total.antisymm k k) in ap is_eq e
 
 kind_same : (a b : Kind) → same_kind a b ≡ true → a ≡ b
 kind_same kind.Obj kind.Obj h = refl

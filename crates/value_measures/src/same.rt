@@ -10,6 +10,7 @@ use std::cmp::Ordering;
 use values::{Entry, Field, Key, Text, Val, ValNode};
 
 /// Whether two values are the same: the same primitive, or containers of one kind with the same entries.
+#[tactic(auto, using(crate::proofs::Exact::same_exact))]
 pub fn same_value(a: &Val, b: &Val) -> bool
     ensures test { result ≡ is_same a.now b.now }
     ensures exact { IsTrue result ↔ (a.now ≡ b.now) }

@@ -1,4 +1,4 @@
-use Rattle.std.proofs.Common.{◌≡◌, ◌≤◌, ◌+◌, ◌*◌, length, drop}
+use Rattle.std.proofs.Common.{◌≡◌, ◌≤◌, ◌+◌, ◌-◌, ◌*◌, length, drop}
 use Rattle.value_model.specs.Plain.{values, values_in}
 use Rattle.values.specs.Seen.{of_fields, of_entries, of_items}
 use Rattle.value_measures.specs.Same.{same_entries}
@@ -25,26 +25,35 @@ decreases-same_items l = 3 * values_in (of_items l.a.now) + 1
 abbrev pub decreases-same_pairs : goal.decreases-same_pairs
 decreases-same_pairs l = 3 * values_in (of_entries l.a.now) + 1
 
-abbrev pub invariant-same_fields-loop : goal.invariant-same_fields-loop
-invariant-same_fields-loop l = record {
+abbrev pub invariant-same_fields-loop-i : goal.invariant-same_fields-loop-i
+invariant-same_fields-loop-i l = record {
   same : same_entries (of_fields (drop l.i l.a)) (of_fields (drop l.i l.b)) ≡ same_entries (of_fields l.a) (of_fields l.b);
   fewer : values_in (of_fields (drop l.i l.a)) ≤ values_in (of_fields l.a);
   in_a : l.i ≤ length l.a;
   in_b : l.i ≤ length l.b;
 }
 
-abbrev pub invariant-same_items-loop : goal.invariant-same_items-loop
-invariant-same_items-loop l = record {
+abbrev pub invariant-same_items-loop-i : goal.invariant-same_items-loop-i
+invariant-same_items-loop-i l = record {
   same : same_entries (of_items (drop l.i l.a)) (of_items (drop l.i l.b)) ≡ same_entries (of_items l.a) (of_items l.b);
   fewer : values_in (of_items (drop l.i l.a)) ≤ values_in (of_items l.a);
   in_a : l.i ≤ length l.a;
   in_b : l.i ≤ length l.b;
 }
 
-abbrev pub invariant-same_pairs-loop : goal.invariant-same_pairs-loop
-invariant-same_pairs-loop l = record {
+abbrev pub invariant-same_pairs-loop-i : goal.invariant-same_pairs-loop-i
+invariant-same_pairs-loop-i l = record {
   same : same_entries (of_entries (drop l.i l.a)) (of_entries (drop l.i l.b)) ≡ same_entries (of_entries l.a) (of_entries l.b);
   fewer : values_in (of_entries (drop l.i l.a)) ≤ values_in (of_entries l.a);
   in_a : l.i ≤ length l.a;
   in_b : l.i ≤ length l.b;
 }
+
+abbrev pub decreases-same_fields-loop-i : goal.decreases-same_fields-loop-i
+decreases-same_fields-loop-i l = length l.a - l.i
+
+abbrev pub decreases-same_items-loop-i : goal.decreases-same_items-loop-i
+decreases-same_items-loop-i l = length l.a - l.i
+
+abbrev pub decreases-same_pairs-loop-i : goal.decreases-same_pairs-loop-i
+decreases-same_pairs-loop-i l = length l.a - l.i

@@ -1,0 +1,5 @@
+pub mod Areas
+pub mod Files
+pub mod History
+pub mod Records
+pub mod Slots
