@@ -8,7 +8,7 @@ use Rattle.value_bytes_spec.specs.Reading.{◌>>=◌, number_at, value_at}
 use Rattle.value_bytes_spec.proofs.Fields.{bind_some, passed_then, not_refused, some_is}
 use Rattle.journal_bytes.specs.History.{History, Step}
 use Rattle.journal_bytes.specs.Records.{front_at, sized_at, record_at, whole, step_at}
-use Rattle.journal_bytes.specs.Areas.{format_of, state_at, entry_at, entries_onto, counted_at, sound_if, history_at, area_at}
+use Rattle.journal_bytes.specs.Areas.{format_of, state_at, kept_at, entries_onto, counted_at, sound_if, history_at, area_at}
 use Rattle.journal_bytes.specs.declared.change.Format.{Format}
 
 -- the step behind one that gave something
@@ -141,15 +141,15 @@ takes_state bytes v rest e =
     let there : Plain × List ℕ = (b.0, a.0.1) in
     subst (λ (q : Plain × List ℕ). TakesFront state_at bytes q.0 q.1) (some_is there (v, rest) b.2) t
 
-takes_entry : (format : Format) (bytes : List ℕ) (s : Step) (rest : List ℕ) → entry_at format bytes ≡ Some (s, rest) → TakesFront (entry_at format) bytes s rest
-unfolding entry_at
+takes_entry : (format : Format) (bytes : List ℕ) (s : Step) (rest : List ℕ) → kept_at format bytes ≡ Some (s, rest) → TakesFront (kept_at format) bytes s rest
+unfolding kept_at
 takes_entry format bytes s rest e =
     let f : List ℕ → Option Step = λ body. whole (step_at format body) in
     let a = bind_some (sized_at bytes) (λ body. f body.0 >>= λ v. Some (v, body.1)) (s, rest) e in
     let b = bind_some (f a.0.0) (λ v. Some (v, a.0.1)) (s, rest) a.2 in
     let t = takes_as sized_at f bytes a.0.0 a.0.1 b.0 (takes_sized bytes a.0.0 a.0.1 a.1).0 b.1 in
     let there : Step × List ℕ = (b.0, a.0.1) in
-    subst (λ (q : Step × List ℕ). TakesFront (entry_at format) bytes q.0 q.1) (some_is there (s, rest) b.2) t
+    subst (λ (q : Step × List ℕ). TakesFront (kept_at format) bytes q.0 q.1) (some_is there (s, rest) b.2) t
 
 takes_onto : (format : Format) (n : ℕ) (es : List Step) (bytes : List ℕ) (all : List Step) (rest : List ℕ) → entries_onto format n es bytes ≡ Some (all, rest) → TakesFront (entries_onto format n es) bytes all rest
 unfolding entries_onto
@@ -158,8 +158,8 @@ takes_onto format zero es bytes all rest e =
     subst (λ (q : List Step × List ℕ). TakesFront (entries_onto format zero es) bytes q.0 q.1) (some_is there (all, rest) e) (record { front = []; parts = refl; again = λ more. refl })
 takes_onto format (suc n) es bytes all rest e =
     let more : Step → List ℕ → Option (List Step × List ℕ) = λ s bs. entries_onto format n (s ∷ es) bs in
-    let a = bind_some (entry_at format bytes) (λ s. more s.0 s.1) (all, rest) e in
-    takes_then (entry_at format) more bytes a.0.0 a.0.1 all rest (takes_entry format bytes a.0.0 a.0.1 a.1) (takes_onto format n (a.0.0 ∷ es) a.0.1 all rest a.2)
+    let a = bind_some (kept_at format bytes) (λ s. more s.0 s.1) (all, rest) e in
+    takes_then (kept_at format) more bytes a.0.0 a.0.1 all rest (takes_entry format bytes a.0.0 a.0.1 a.1) (takes_onto format n (a.0.0 ∷ es) a.0.1 all rest a.2)
 
 takes_counted : (format : Format) (bytes : List ℕ) (es : List Step) (rest : List ℕ) → counted_at format bytes ≡ Some (es, rest) → TakesFront (counted_at format) bytes es rest
 unfolding counted_at

@@ -1,2 +1,4 @@
+pub mod Chains
 pub mod Fronts
 pub mod Nexts
+pub mod Recorded

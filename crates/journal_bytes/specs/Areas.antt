@@ -50,8 +50,8 @@ state_at bytes = do
   Some (v, body.1)
 
 -- an entry behind its length
-unfoldable pub entry_at : Format → List ℕ → Option (Step × List ℕ)
-entry_at format bytes = do
+unfoldable pub kept_at : Format → List ℕ → Option (Step × List ℕ)
+kept_at format bytes = do
   body ← sized_at bytes
   e ← whole (step_at format body.0)
   Some (e, body.1)
@@ -60,7 +60,7 @@ entry_at format bytes = do
 unfoldable pub entries_onto : Format → ℕ → List Step → List ℕ → Option (List Step × List ℕ)
 entries_onto format zero es bytes = Some (es, bytes)
 entries_onto format (suc n) es bytes = do
-  e ← entry_at format bytes
+  e ← kept_at format bytes
   entries_onto format n (e.0 ∷ es) e.1
 
 -- the count of entries, and the entries

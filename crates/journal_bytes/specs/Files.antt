@@ -127,15 +127,21 @@ records_at file may p = chain file may (suc (length file)) p
 abbrev pub state_if : Plain → Option Plain
 state_if v = if is_none (state_limit v) then Some v else None
 
+-- the place of the first gate behind the bytes of a state
+abbrev pub first_place : Format → List ℕ → Option Place
+first_place format bytes = do
+  v ← whole (value_at bytes)
+  first ← state_if v
+  Some (placed (header_spot format (length bytes)) (begun first))
+
 -- a format, and a state behind its length: the place of the first gate, and what stands there
 unfoldable pub header_at : List ℕ → Option (Place × List ℕ)
 header_at [] = None
 header_at (b ∷ bytes) = do
   format ← format_of b
   state ← sized_at bytes
-  v ← whole (value_at state.0)
-  first ← state_if v
-  Some (placed (header_spot format (length state.0)) (begun first), state.1)
+  p ← first_place format state.0
+  Some (p, state.1)
 
 -- behind the file gate; a header that is not whole or not in the grammar shows at the byte 9
 abbrev pub behind_header : List ℕ → Bool → Option (Place × List ℕ) → Reading

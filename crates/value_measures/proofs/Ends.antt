@@ -10,8 +10,8 @@ module _ {X : Type 0} (f : X → Key × Plain) where
   -- one of them is empty
   none_left : (xs ys : List X) → (xs ≡ []) ⊎ (ys ≡ []) → nat_eq (length xs) (length ys) ≡ same_entries (entries (map f xs)) (entries (map f ys))
   none_left [] [] e = refl
-  none_left [] (y ∷ ys) e = refl
-  none_left (x ∷ xs) [] e = refl
+  none_left [] (y ∷ ys) e = let other : nat_eq 0 (suc (length ys)) ≡ false = grind arith in other
+  none_left (x ∷ xs) [] e = let other : nat_eq (suc (length xs)) 0 ≡ false = grind arith in other
   none_left (x ∷ xs) (y ∷ ys) (inl e) = absurd cc
   none_left (x ∷ xs) (y ∷ ys) (inr e) = absurd cc
 
