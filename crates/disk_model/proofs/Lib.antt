@@ -2,3 +2,4 @@ mod Crashed
 mod Filled
 pub mod Kept
 pub mod Moments
+pub mod Twice

@@ -12,6 +12,12 @@ pub record Torn (at n : ℕ) (old new : List ℕ) : Type 0 where
   pub no_more : length middle ≤ n
   pub no_shorter : length old ≤ length new
 
+-- an image after a write of n bytes and one of m bytes, each done or not
+pub record TornTwice (at n then_at m : ℕ) (old new : List ℕ) : Type 0 where
+  pub between : List ℕ
+  pub first : Torn at n old between
+  pub second : Torn then_at m between new
+
 -- an image after a cut (`ftruncate` of POSIX), done or not: an end between the old one and the new
 pub record Cut (end : ℕ) (old new : List ℕ) : Type 0 where
   pub front : new ≡ take (length new) old

@@ -15,4 +15,4 @@ pub use crash::Crash;
 pub use disk::Disk;
 pub use file::FileDisk;
 pub use memory::MemDisk;
-pub use through::{cut_through, write_through};
+pub use through::{cut_through, write_through, write_two_through};

@@ -1,6 +1,6 @@
 ghost use Rattle.std.specs.Prelude.{◌≡◌, ◌<◌, ◌≤◌, ◌+◌, ◌^◌, ℕ, List, Some, length, take, OnOk, IfSome, is_some, option_map};
 ghost use Rattle.io_edges.specs.Causes.{HasCause};
-ghost use Rattle.disk_model.specs.Disk.{written, Torn, Cut, IsSettled, LeavesOnly};
+ghost use Rattle.disk_model.specs.Disk.{written, Torn, TornTwice, Cut, IsSettled, LeavesOnly};
 
 use crate::disk::Disk;
 use io_edges::Failed;
@@ -18,9 +18,39 @@ pub fn write_through<D: Disk>(disk: &mut D, at: u64, piece: &[u8]) -> Result<(),
     ensures any_moment { (bytes : List ℕ) → D.told disk.old ≡ Some bytes → IsSettled D.told D.may_leave disk.old
         → LeavesOnly D.moment D.left_since D.may_leave disk.old disk.new (Torn at (length piece.now) bytes) }
     ensures tells { is_some (D.told disk.new) ≡ is_some (D.told disk.old) }
+    ensures later { D.moment disk.old ≤ D.moment disk.new }
     ensures cause { HasCause (D.faults disk.old) (D.faults disk.new) result }
 {
     disk.write_at(at, piece)?;
+    disk.sync()
+}
+
+/// Writes two pieces, each from a place within the bytes on, and makes them last together: after `Ok` each crash leaves the
+/// bytes with both in them. Where the disk is settled before (a crash leaves what a read gives), a crash within the call
+/// leaves any bytes in their places and the others as they were, whatever the answer.
+///
+/// `Failed` comes only where the disk's count of faults rose in this call.
+pub fn write_two_through<D: Disk>(
+    disk: &mut D,
+    at: u64,
+    piece: &[u8],
+    then_at: u64,
+    then_piece: &[u8],
+) -> Result<(), Failed>
+    requires begins { IfSome (D.told disk.old) (λ bytes. at ≤ length bytes) }
+    requires then_begins { IfSome (D.told disk.old) (λ bytes. then_at ≤ length bytes) }
+    requires within { at + length piece.now < 2 ^ 63 }
+    requires then_within { then_at + length then_piece.now < 2 ^ 63 }
+    ensures done { OnOk result (D.told disk.new ≡ option_map (λ bytes. written then_at then_piece.now (written at piece.now bytes)) (D.told disk.old)) }
+    ensures lasts { OnOk result (IsSettled D.told D.may_leave disk.new) }
+    ensures any_moment { (bytes : List ℕ) → D.told disk.old ≡ Some bytes → IsSettled D.told D.may_leave disk.old
+        → LeavesOnly D.moment D.left_since D.may_leave disk.old disk.new (TornTwice at (length piece.now) then_at (length then_piece.now) bytes) }
+    ensures tells { is_some (D.told disk.new) ≡ is_some (D.told disk.old) }
+    ensures later { D.moment disk.old ≤ D.moment disk.new }
+    ensures cause { HasCause (D.faults disk.old) (D.faults disk.new) result }
+{
+    disk.write_at(at, piece)?;
+    disk.write_at(then_at, then_piece)?;
     disk.sync()
 }
 
@@ -37,6 +67,7 @@ pub fn cut_through<D: Disk>(disk: &mut D, end: u64) -> Result<(), Failed>
     ensures any_moment { (bytes : List ℕ) → D.told disk.old ≡ Some bytes → IsSettled D.told D.may_leave disk.old
         → LeavesOnly D.moment D.left_since D.may_leave disk.old disk.new (Cut end bytes) }
     ensures tells { is_some (D.told disk.new) ≡ is_some (D.told disk.old) }
+    ensures later { D.moment disk.old ≤ D.moment disk.new }
     ensures cause { HasCause (D.faults disk.old) (D.faults disk.new) result }
 {
     disk.cut(end)?;
