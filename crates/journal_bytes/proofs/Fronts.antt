@@ -22,7 +22,7 @@ pub record TakesFront {A : Type 0} (read : List ℕ → Option (A × List ℕ)) 
   pub again : (more : List ℕ) → read (front ++ more) ≡ Some (x, more)
 
 -- one reader behind another
-takes_then : {A B : Type 0} (read : List ℕ → Option (A × List ℕ)) (more : A → List ℕ → Option (B × List ℕ)) (bytes : List ℕ) (x : A) (mid : List ℕ) (y : B) (rest : List ℕ)
+pub takes_then : {A B : Type 0} (read : List ℕ → Option (A × List ℕ)) (more : A → List ℕ → Option (B × List ℕ)) (bytes : List ℕ) (x : A) (mid : List ℕ) (y : B) (rest : List ℕ)
     → TakesFront read bytes x mid → TakesFront (more x) mid y rest → TakesFront (λ (bs : List ℕ). read bs >>= λ a. more a.0 a.1) bytes y rest
 takes_then read more bytes x mid y rest first second = record {
   front = first.front ++ second.front;
@@ -33,7 +33,7 @@ takes_then read more bytes x mid y rest first second = record {
 }
 
 -- what was taken, turned into something else
-takes_as : {A B : Type 0} (read : List ℕ → Option (A × List ℕ)) (f : A → Option B) (bytes : List ℕ) (x : A) (rest : List ℕ) (y : B)
+pub takes_as : {A B : Type 0} (read : List ℕ → Option (A × List ℕ)) (f : A → Option B) (bytes : List ℕ) (x : A) (rest : List ℕ) (y : B)
     → TakesFront read bytes x rest → f x ≡ Some y → TakesFront (λ (bs : List ℕ). read bs >>= λ a. f a.0 >>= λ b. Some (b, a.1)) bytes y rest
 takes_as read f bytes x rest y t e = record {
   front = t.front;
@@ -111,7 +111,7 @@ takes_sized bytes body rest e =
     let b = bind_some (number_at w32 bytes) (λ n. front_at n.0 n.1) (body, rest) e in
     let first = takes_number w32 bytes b.0.0 b.0.1 b.1 in
     let second = takes_front b.0.0 b.0.1 body rest b.2 in
-    (takes_then (number_at w32) front_at bytes b.0.0 b.0.1 body rest first.0 second.0, omega (arith, first.1, second.1.0, second.1.1))
+    (takes_then (number_at w32) front_at bytes b.0.0 b.0.1 body rest first.0 second.0, omega (arith, first.1, second.1, second.2))
 
 -- a kind, and a body behind its length
 pub takes_record : (bytes : List ℕ) (kind : ℕ) (body rest : List ℕ) → record_at bytes ≡ Some ((kind, body), rest) → TakesFront record_at bytes (kind, body) rest × (length bytes ≡ 5 + length body + length rest)

@@ -179,5 +179,6 @@ format_again Two = refl
 pub area_again : (format : Format) (h : History) (more : List ℕ) → CanStore format h → length (value_bytes h.state) < 2 ^ 32 → area_at (area_bytes format h ++ more) ≡ Some ((format, h), more)
 unfolding area_at
 area_again format h more can short =
-    then (format_of (format_byte format)) (λ format. history_at format (history_bytes format h ++ more) >>= λ h. Some ((format, h.0), h.1)) format (format_again format)
-    ∙ then (history_at format (history_bytes format h ++ more)) (λ k. Some ((format, k.0), k.1)) (h, more) (history_again format h more can short)
+    let named : Format → History × List ℕ → Option ((Format × History) × List ℕ) = λ f k. Some ((f, k.0), k.1) in
+    let of_format : Format → Option ((Format × History) × List ℕ) = λ f. history_at f (history_bytes format h ++ more) >>= named f in
+    then (format_of (format_byte format)) of_format format (format_again format) ∙ then (history_at format (history_bytes format h ++ more)) (named format) (h, more) (history_again format h more can short)
