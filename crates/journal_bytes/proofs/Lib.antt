@@ -4,3 +4,4 @@ pub mod Nexts
 pub mod Recorded
 pub mod Sizes
 pub mod Sound
+pub mod Within

@@ -29,7 +29,7 @@ none_is : (o : Option Limit) → is_none o ≡ true → o ≡ None
 none_is None e = refl
 none_is (Some l) e = absurd cc
 
-is_ok : {A : Type 0} → A → Result A Fault
+abbrev is_ok : {A : Type 0} → A → Result A Fault
 is_ok x = Ok x
 
 -- ---- where patches lead

@@ -1,7 +1,7 @@
 -- What a journal file stands for. It is a header and a chain of records, each behind a gate: 1 is open, any other byte
 -- closed, and what stands behind a closed gate doesn't count. One record of the chain may hold two slots; the chain then goes on behind the area that
 -- the present slot names.
-use Rattle.std.specs.Prelude.{◌≡◌, ℕ, zero, suc, ◌==◌, ◌+◌, ◌-◌, ◌^◌, nat_le, Bool, true, false, ◌&&◌, List, [], ◌∷◌, ◌++◌, length, take, drop, Option, Some, None, codes, if◌then◌else◌}
+use Rattle.std.specs.Prelude.{◌≡◌, ℕ, zero, suc, ◌==◌, ◌+◌, ◌-◌, ◌*◌, ◌^◌, ◌≤◌, nat_le, Bool, true, false, ◌&&◌, List, [], ◌∷◌, ◌++◌, length, take, drop, Option, Some, None, codes, if◌then◌else◌}
 use Rattle.std.specs.Option.{is_none}
 use Rattle.std.specs.Str.{bytes_eq}
 use Rattle.value_model.specs.Limits.{state_limit}
@@ -54,6 +54,29 @@ pub data Reading : Type 0 where
   unmade : Reading
   foreign : ℕ → Reading
   made : Place → Reading
+
+-- ---- every place stays below 2^63
+
+-- slots that a file may have: every start that is written is within the bound
+pub record CanStart (s : Slots) : Type 0 where
+  pub number : s.number ≤ 3
+  pub at : s.at ≤ 3000000000000000000
+  pub behind_slots : s.at + 21 ≤ s.start
+  pub start : s.start ≤ 2 ^ 62 + 2 ^ 60
+  pub some : 1 ≤ s.bytes
+  pub bytes : s.bytes ≤ 2 ^ 32
+
+-- where the first gate behind the header or the present area stands
+abbrev pub begins : Option Slots → ℕ → Type 0
+begins None first = first ≤ 2 ^ 33
+begins (Some s) first = CanStart s × (first ≡ s.start + s.bytes - 1)
+
+-- a record has fewer than 39,000,000 bytes, and a chain at most 2^36 records
+pub record IsWithin (s : Spot) : Type 0 where
+  pub few : s.records ≤ 2 ^ 36
+  pub near : s.first ≤ s.gate
+  pub far : s.gate ≤ s.first + 39000000 * s.records
+  pub begins : begins s.slots s.first
 
 -- ---- one record
 
