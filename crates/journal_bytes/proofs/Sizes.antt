@@ -86,7 +86,7 @@ pair_size pair light =
     let le : patches_weight pair.forward + patches_weight pair.inverse ≤ 2 ^ 22 = leb-true _ _ light in
     omega (arith, length-append (patches_bytes pair.forward) (patches_bytes pair.inverse), patches_size pair.forward, patches_size pair.inverse, le)
 
-name_short : (name : List ℕ) → IsTrue (is_name name) → length name ≤ 2 ^ 20
+pub name_short : (name : List ℕ) → IsTrue (is_name name) → length name ≤ 2 ^ 20
 unfolding is_name
 name_short name h = leb-true _ _ (left_true _ _ (left_true _ _ (left_true _ _ h)))
 

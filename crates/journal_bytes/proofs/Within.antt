@@ -26,7 +26,7 @@ use Rattle.journal_bytes.specs.Records.{front_at, sized_at, record_at, whole, na
 use Rattle.journal_bytes.specs.Areas.{format_of, state_at, kept_at, entries_onto, counted_at, sound_if, history_at, area_at}
 use Rattle.journal_bytes.specs.Slots.{Slot}
 use Rattle.journal_bytes.specs.Files.{Place, Spot, Reading, made, placed, behind, header_spot, area_spot, CanStart, begins, IsWithin, slots_of, next_place, is_slots, next, chain, records_at, state_if, first_place, header_at, reading}
-use Rattle.journal_bytes.proofs.Fronts.{TakesFront, takes_front, takes_number, takes_sized, takes_record, takes_area}
+use Rattle.journal_bytes.proofs.Fronts.{TakesFront, takes_number, takes_sized, takes_record, takes_area}
 use Rattle.journal_bytes.proofs.Nexts.{Records, Jumps, Lands, next_cases, lands, far_area, whole_some}
 use Rattle.journal_bytes.proofs.Chains.{walk, HasHeader, has_header}
 use Rattle.journal_bytes.proofs.Sizes.{pair_size, name_short, state_size}
@@ -245,6 +245,14 @@ pub record IsReached (p : Place) : Type 0 where
   pub counted : p.spot.records ≤ p.history.seq
   pub within : IsWithin p.spot
 
+record_bytes_of : (bytes : List ℕ) (kind : ℕ) (body rest : List ℕ) → IsBytes bytes → record_at bytes ≡ Some ((kind, body), rest) → IsBytes body
+unfolding record_at
+record_bytes_of [] kind body rest fits e = absurd cc
+record_bytes_of (k ∷ bytes) kind body rest fits e =
+    let a = bind_some (sized_at bytes) (λ x. Some ((k, x.0), x.1)) ((kind, body), rest) e in
+    let there : (ℕ × List ℕ) × List ℕ = ((k, a.0.0), a.0.1) in
+    subst IsBytes (ap (λ (x : (ℕ × List ℕ) × List ℕ). x.0.1) (some_is there ((kind, body), rest) a.2)) (sized_bytes bytes a.0.0 a.0.1 (IsBytes-rest k bytes fits) a.1).0
+
 reached_record : (file : List ℕ) (may : Bool) (p q : Place) → IsBytes file → IsReached p → Records file may p q → IsReached q
 reached_record file may p q fits r e =
     let made : History → Option Place = λ h. Some (placed (behind p.spot (6 + length e.body)) h) in
@@ -259,18 +267,10 @@ reached_record file may p q fits r e =
       counted = omega (arith, s.0, r.counted);
       within = record { few = omega (arith, s.0, s.1, r.counted); near = omega (arith, r.within.near); far = omega (arith, r.within.far, short); begins = r.within.begins };
     })
-  where
-    record_bytes_of : (bytes : List ℕ) (kind : ℕ) (body rest : List ℕ) → IsBytes bytes → record_at bytes ≡ Some ((kind, body), rest) → IsBytes body
-    unfolding record_at
-    record_bytes_of [] kind body rest fits e = absurd cc
-    record_bytes_of (k ∷ bytes) kind body rest fits e =
-        let a = bind_some (sized_at bytes) (λ x. Some ((k, x.0), x.1)) ((kind, body), rest) e in
-        let there : (ℕ × List ℕ) × List ℕ = ((k, a.0.0), a.0.1) in
-        subst IsBytes (ap (λ (x : (ℕ × List ℕ) × List ℕ). x.0.1) (some_is there ((kind, body), rest) a.2)) (sized_bytes bytes a.0.0 a.0.1 (IsBytes-rest k bytes fits) a.1).0
 
-no_slots_yet : (o : Option Slots) → is_none o ≡ true → o ≡ None
-no_slots_yet None e = refl
-no_slots_yet (Some s) e = absurd cc
+by_none : {A : Type 0} (o : Option A) → is_none o ≡ true → o ≡ None
+by_none None e = refl
+by_none (Some x) e = absurd cc
 
 reached_jump : (file : List ℕ) (may : Bool) (p q : Place) → IsBytes file → IsReached p → Jumps file may p q → IsReached q
 reached_jump file may p q fits r j =
@@ -279,7 +279,7 @@ reached_jump file may p q fits r j =
     let start = j.one.1.start in
     let a = area_part (drop start file) m.area (m.gate ∷ m.rest) (bytes_drop start file fits) m.read in
     let t = takes_area (drop start file) m.area (m.gate ∷ m.rest) m.read in
-    let none : p.spot.slots ≡ None = no_slots_yet p.spot.slots (right_true ((j.kind == 4) && may) (is_none p.spot.slots) j.slots) in
+    let none : p.spot.slots ≡ None = by_none p.spot.slots (right_true ((j.kind == 4) && may) (is_none p.spot.slots) j.slots) in
     let low : p.spot.first ≤ 2 ^ 33 = subst (λ (o : Option Slots). begins o p.spot.first) none r.within.begins in
     let n = length (drop start file) - length m.rest in
     let size = ap length t.parts in
@@ -309,10 +309,6 @@ state_only : (v w : Plain) → state_if v ≡ Some w → (state_limit w ≡ None
 state_only v w e =
     let p = passed (is_none (state_limit v)) v w e in
     (by_none (state_limit w) (ap (λ (x : Plain). is_none (state_limit x)) (sym p.1) ∙ p.0), p.1)
-  where
-    by_none : {A : Type 0} (o : Option A) → is_none o ≡ true → o ≡ None
-    by_none None e = refl
-    by_none (Some x) e = absurd cc
 
 reached_first : (format : Format) (bytes : List ℕ) (p : Place) → IsBytes bytes → first_place format bytes ≡ Some p → IsReached p
 reached_first format bytes p fits e =
