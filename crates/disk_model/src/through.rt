@@ -32,25 +32,25 @@ pub fn write_through<D: Disk>(disk: &mut D, at: u64, piece: &[u8]) -> Result<(),
 /// `Failed` comes only where the disk's count of faults rose in this call.
 pub fn write_two_through<D: Disk>(
     disk: &mut D,
-    at: u64,
-    piece: &[u8],
-    then_at: u64,
-    then_piece: &[u8],
+    first_at: u64,
+    first: &[u8],
+    second_at: u64,
+    second: &[u8],
 ) -> Result<(), Failed>
-    requires begins { IfSome (D.told disk.old) (λ bytes. at ≤ length bytes) }
-    requires then_begins { IfSome (D.told disk.old) (λ bytes. then_at ≤ length bytes) }
-    requires within { at + length piece.now < 2 ^ 63 }
-    requires then_within { then_at + length then_piece.now < 2 ^ 63 }
-    ensures done { OnOk result (D.told disk.new ≡ option_map (λ bytes. written then_at then_piece.now (written at piece.now bytes)) (D.told disk.old)) }
+    requires begins { IfSome (D.told disk.old) (λ bytes. first_at ≤ length bytes) }
+    requires second_begins { IfSome (D.told disk.old) (λ bytes. second_at ≤ length bytes) }
+    requires within { first_at + length first.now < 2 ^ 63 }
+    requires second_within { second_at + length second.now < 2 ^ 63 }
+    ensures done { OnOk result (D.told disk.new ≡ option_map (λ bytes. written second_at second.now (written first_at first.now bytes)) (D.told disk.old)) }
     ensures lasts { OnOk result (IsSettled D.told D.may_leave disk.new) }
     ensures any_moment { (bytes : List ℕ) → D.told disk.old ≡ Some bytes → IsSettled D.told D.may_leave disk.old
-        → LeavesOnly D.moment D.left_since D.may_leave disk.old disk.new (TornTwice at (length piece.now) then_at (length then_piece.now) bytes) }
+        → LeavesOnly D.moment D.left_since D.may_leave disk.old disk.new (TornTwice first_at (length first.now) second_at (length second.now) bytes) }
     ensures tells { is_some (D.told disk.new) ≡ is_some (D.told disk.old) }
     ensures later { D.moment disk.old ≤ D.moment disk.new }
     ensures cause { HasCause (D.faults disk.old) (D.faults disk.new) result }
 {
-    disk.write_at(at, piece)?;
-    disk.write_at(then_at, then_piece)?;
+    disk.write_at(first_at, first)?;
+    disk.write_at(second_at, second)?;
     disk.sync()
 }
 
