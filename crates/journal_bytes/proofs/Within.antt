@@ -25,7 +25,7 @@ use Rattle.journal_bytes.specs.History.{History, Step, begun, is_name, is_light,
 use Rattle.journal_bytes.specs.Records.{front_at, sized_at, record_at, whole, name_or_none, name_at, step_at, made_of, bare, change_of}
 use Rattle.journal_bytes.specs.Areas.{format_of, state_at, kept_at, entries_onto, counted_at, sound_if, history_at, area_at}
 use Rattle.journal_bytes.specs.Slots.{Slot}
-use Rattle.journal_bytes.specs.Files.{Place, Spot, Reading, made, placed, behind, header_spot, area_spot, CanStart, begins, IsWithin, slots_of, next_place, is_slots, next, chain, records_at, state_if, first_place, header_at, reading}
+use Rattle.journal_bytes.specs.Files.{Place, Spot, Reading, made, placed, behind, header_spot, area_spot, CanStart, begins, IsWithin, IsReached, slots_of, next_place, is_slots, next, chain, records_at, state_if, first_place, header_at, reading}
 use Rattle.journal_bytes.proofs.Fronts.{TakesFront, takes_number, takes_sized, takes_record, takes_area}
 use Rattle.journal_bytes.proofs.Nexts.{Records, Jumps, Lands, next_cases, lands, far_area, whole_some}
 use Rattle.journal_bytes.proofs.Chains.{walk, HasHeader, has_header}
@@ -239,12 +239,6 @@ area_part (b ∷ bytes) x rest fits e =
 
 -- ---- a place
 
--- what holds at each place of a made file
-pub record IsReached (p : Place) : Type 0 where
-  pub sound : is_sound p.history ≡ true
-  pub counted : p.spot.records ≤ p.history.seq
-  pub within : IsWithin p.spot
-
 record_bytes_of : (bytes : List ℕ) (kind : ℕ) (body rest : List ℕ) → IsBytes bytes → record_at bytes ≡ Some ((kind, body), rest) → IsBytes body
 unfolding record_at
 record_bytes_of [] kind body rest fits e = absurd cc
@@ -253,20 +247,24 @@ record_bytes_of (k ∷ bytes) kind body rest fits e =
     let there : (ℕ × List ℕ) × List ℕ = ((k, a.0.0), a.0.1) in
     subst IsBytes (ap (λ (x : (ℕ × List ℕ) × List ℕ). x.0.1) (some_is there ((kind, body), rest) a.2)) (sized_bytes bytes a.0.0 a.0.1 (IsBytes-rest k bytes fits) a.1).0
 
+-- a change that is allowed
+pub reached_change : (p : Place) (kind : ℕ) (body : List ℕ) (c : Change) (k : History) → IsBytes body → IsReached p → change_of p.spot.format kind body ≡ Some c → changed c p.history ≡ Some k → IsReached (placed (behind p.spot (6 + length body)) k)
+reached_change p kind body c k fits r of_body is =
+    let s = seq_changed c p.history k is in
+    let short = short_record p.spot.format kind body c p.history k fits of_body is in
+    record {
+      sound = sound_changed c p.history k r.sound is;
+      counted = omega (arith, s.0, r.counted);
+      within = record { few = omega (arith, s.0, s.1, r.counted); near = omega (arith, r.within.near); far = omega (arith, r.within.far, short); begins = r.within.begins };
+    }
+
 reached_record : (file : List ℕ) (may : Bool) (p q : Place) → IsBytes file → IsReached p → Records file may p q → IsReached q
 reached_record file may p q fits r e =
     let made : History → Option Place = λ h. Some (placed (behind p.spot (6 + length e.body)) h) in
     let a = bind_some (change_of p.spot.format e.kind e.body) (λ change. changed change p.history >>= made) q e.leads in
     let b = bind_some (changed a.0 p.history) made q a.2 in
-    let s = seq_changed a.0 p.history b.0 b.1 in
     let good = record_bytes_of (drop (p.spot.gate + 1) file) e.kind e.body e.rest (bytes_drop (p.spot.gate + 1) file fits) e.read in
-    let short = short_record p.spot.format e.kind e.body a.0 p.history b.0 good a.1 b.1 in
-    subst IsReached (some_is (placed (behind p.spot (6 + length e.body)) b.0) q b.2)
-    (record {
-      sound = sound_changed a.0 p.history b.0 r.sound b.1;
-      counted = omega (arith, s.0, r.counted);
-      within = record { few = omega (arith, s.0, s.1, r.counted); near = omega (arith, r.within.near); far = omega (arith, r.within.far, short); begins = r.within.begins };
-    })
+    subst IsReached (some_is (placed (behind p.spot (6 + length e.body)) b.0) q b.2) (reached_change p e.kind e.body a.0 b.0 good r a.1 b.1)
 
 by_none : {A : Type 0} (o : Option A) → is_none o ≡ true → o ≡ None
 by_none None e = refl

@@ -8,7 +8,7 @@ use Rattle.value_model.specs.Limits.{state_limit}
 use Rattle.value_model.specs.Plain.{Plain}
 use Rattle.value_bytes_spec.specs.Reading.{◌>>=◌, value_at}
 use Rattle.value_bytes_spec.specs.Spelling.{text_bytes, value_bytes}
-use Rattle.journal_bytes.specs.History.{History, begun, changed}
+use Rattle.journal_bytes.specs.History.{History, begun, changed, is_sound}
 use Rattle.journal_bytes.specs.Records.{format_byte, body_bytes, sized_at, record_at, whole, change_of}
 use Rattle.journal_bytes.specs.Areas.{format_of, area_at}
 use Rattle.journal_bytes.specs.Slots.{Slot, slots_at, present}
@@ -77,6 +77,12 @@ pub record IsWithin (s : Spot) : Type 0 where
   pub near : s.first ≤ s.gate
   pub far : s.gate ≤ s.first + 39000000 * s.records
   pub begins : begins s.slots s.first
+
+-- what holds at each place of a made file
+pub record IsReached (p : Place) : Type 0 where
+  pub sound : is_sound p.history ≡ true
+  pub counted : p.spot.records ≤ p.history.seq
+  pub within : IsWithin p.spot
 
 -- ---- one record
 
