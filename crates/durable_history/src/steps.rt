@@ -91,6 +91,7 @@ impl Steps {
     }
 
     /// Puts an entry in front; after want of memory the list is as before.
+    #[tactic(auto, using(crate::proofs::Turned::reverse_push))]
     pub fn push(&mut self, step: Step) -> Result<(), AllocError>
         ensures ok { OnOk result (self.new ≡ step ∷ self.old) }
         ensures err { OnErr result (self.new ≡ self.old) }
@@ -100,6 +101,7 @@ impl Steps {
     }
 
     /// Takes the entry in front, or None exactly where there is none. It takes no memory.
+    #[tactic(auto, using(crate::proofs::Turned::reverse_push))]
     pub fn pop(&mut self) -> Option<Step>
         ensures { MatchOption result ((self.old ≡ []) × (self.new ≡ [])) (λ s. self.old ≡ s ∷ self.new) }
     {
@@ -107,6 +109,7 @@ impl Steps {
     }
 
     /// Drops the entry at the end. It takes no memory.
+    #[tactic(auto, using(crate::proofs::Turned::reverse_first, std::proofs::lemmas::List::length-reverse))]
     pub fn drop_last(&mut self)
         requires { 0 < length self.old }
         ensures { self.new ≡ take (length self.old - 1) self.old }
