@@ -1,1 +1,4 @@
 pub mod Appends
+pub mod Cuts
+pub mod Makes
+pub mod Packs

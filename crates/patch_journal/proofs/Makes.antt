@@ -1,0 +1,105 @@
+-- What each step of making may leave.
+use Rattle.std.proofs.Common.{◌≡◌, ℕ, zero, suc, ◌+◌, ◌-◌, ◌<◌, ◌≤◌, ◌==◌, min, Bool, true, false, cond, leb, eqb, List, [], ◌∷◌, ◌++◌, length, take, drop, Option, Some, None, refl, sym, ap, subst, ◌∙◌, append_assoc, append-nil, arith, ◌⊎◌, inl, inr}
+use Rattle.std.specs.Prelude.{option_map, IfSome}
+use Rattle.std.proofs.lemmas.Bool.{eqb-true, le-leb}
+use Rattle.std.proofs.lemmas.List.{take_at, drop_at, drop_all, length-append}
+use Rattle.value_model.specs.Limits.{state_limit}
+use Rattle.value_model.specs.Plain.{Plain}
+use Rattle.disk_model.specs.Disk.{written, Torn, Cut, IsSettled, LeavesOnly}
+use Rattle.disk_model.proofs.Moments.{weaker}
+use Rattle.journal_bytes.specs.History.{History}
+use Rattle.journal_bytes.specs.Files.{Place, Spot, Reading, Class, Unmade, Holds, unmade, foreign, made, class, class_of, header_at, behind_header, behind_name, name, reading, StandsAt}
+use Rattle.patch_journal.specs.Journal.{Stands}
+use Rattle.patch_journal.specs.Making.{IsUnmade, IsUnmadeOr, Begins, IsNew}
+
+-- ---- files that are not made yet
+
+by_size : (b : Bool) (r : Reading) → r ≡ unmade → cond b unmade r ≡ unmade
+by_size true r e = refl
+by_size false r e = e
+
+pub named_unmade : (gate : ℕ) (rest : List ℕ) → (gate == 1) ≡ false → IsUnmade (name ++ gate ∷ rest)
+unfolding reading
+named_unmade gate rest closed =
+    ap class_of
+    (by_size (leb (length (name ++ gate ∷ rest)) 9) (behind_name (name ++ gate ∷ rest) true (gate ∷ rest))
+      (ap (λ (b : Bool). cond b (behind_header (name ++ gate ∷ rest) true (header_at rest)) unmade) closed))
+
+pub short_unmade : (file : List ℕ) → length file ≤ 9 → IsUnmade file
+unfolding reading
+short_unmade file le = rw (le-leb (length file) 9 le) refl
+
+-- ---- the name
+
+no_bytes : (file : List ℕ) → length file ≤ 9 → drop 9 file ≡ []
+no_bytes file le = drop_all 9 file le
+
+pub torn_name : (file image : List ℕ) → length file ≤ 9 → Torn 0 9 file image → IsUnmade image
+torn_name file image le torn =
+    short_unmade image (omega (arith, torn.no_more, ap length torn.is, ap length (no_bytes file le), length-append (take 0 file ++ torn.middle) (drop 9 file), length-append (take 0 file) torn.middle))
+
+pub written_name : (file : List ℕ) → length file ≤ 9 → Begins [] (written 0 (name ++ 0 ∷ []) file)
+written_name file le = record { gate = 0; rest = []; is = ap (λ (xs : List ℕ). (name ++ 0 ∷ []) ++ xs) (no_bytes file le); closed = refl }
+
+-- ---- the header
+
+pub torn_header : (file image : List ℕ) (n : ℕ) → Begins [] file → Torn 9 n file image → IsUnmade image
+torn_header file image n b torn =
+    let is : image ≡ name ++ b.gate ∷ (torn.middle ++ drop (9 + n) file) = torn.is ∙ ap (λ (xs : List ℕ). (take 9 xs ++ torn.middle) ++ drop (9 + n) file) b.is in
+    subst IsUnmade (sym is) (named_unmade b.gate (torn.middle ++ drop (9 + n) file) b.closed)
+
+pub written_header : (file header : List ℕ) → Begins [] file → Begins header (written 9 header file)
+written_header file header b = record {
+  gate = b.gate;
+  rest = drop (9 + length header) file;
+  is = ap (λ (xs : List ℕ). (take 9 xs ++ header) ++ drop (9 + length header) file) b.is;
+  closed = b.closed;
+}
+
+-- ---- the cut
+
+front_kept : (gate : ℕ) (rest : List ℕ) (k : ℕ) → take (9 + k) (name ++ gate ∷ rest) ≡ name ++ gate ∷ take k rest
+front_kept gate rest k = refl
+
+short_or_named : (gate : ℕ) (rest : List ℕ) (n : ℕ) → (gate == 1) ≡ false → 9 ≤ n → IsUnmade (take n (name ++ gate ∷ rest))
+short_or_named gate rest n closed le =
+    let far : n ≡ 9 + (n - 9) = omega (arith, le) in
+    subst (λ (k : ℕ). IsUnmade (take k (name ++ gate ∷ rest))) (sym far) (named_unmade gate (take (n - 9) rest) closed)
+
+pub cut_unmade : (file image header : List ℕ) → Begins header file → Cut (9 + length header) file image → IsUnmade image
+cut_unmade file image header b cut =
+    let size : length file ≡ 9 + length (header ++ b.rest) = ap length b.is in
+    let is : image ≡ take (length image) (name ++ b.gate ∷ (header ++ b.rest)) = cut.front ∙ ap (take (length image)) b.is in
+    subst IsUnmade (sym is) (short_or_named b.gate (header ++ b.rest) (length image) b.closed (omega (arith, cut.no_shorter, size)))
+
+pub cut_new : (file header : List ℕ) → Begins header file → IsNew header (take (9 + length header) file)
+cut_new file header b = record {
+  gate = b.gate;
+  is = ap (take (9 + length header)) b.is ∙ front_kept b.gate (header ++ b.rest) (length header) ∙ ap (λ (xs : List ℕ). name ++ b.gate ∷ xs) (take_at header b.rest (length header) refl);
+  closed = b.closed;
+}
+
+-- ---- the file gate
+
+swapped : (gate b : ℕ) (header : List ℕ) → (take 8 (name ++ gate ∷ header) ++ b ∷ []) ++ drop 9 (name ++ gate ∷ header) ≡ name ++ b ∷ header
+swapped gate b header = refl
+
+by_gate : (b : ℕ) (header : List ℕ) (q : Place) (t : Bool) → (b == 1) ≡ t → reading true (name ++ 1 ∷ header) ≡ made q → IsUnmadeOr q.history (name ++ b ∷ header)
+by_gate b header q true e is = inr (ap (λ (x : ℕ). class (name ++ x ∷ header)) (eqb-true b 1 e) ∙ ap class_of is)
+by_gate b header q false e is = inl (named_unmade b header e)
+
+by_middle : (gate : ℕ) (middle header image : List ℕ) (q : Place) → image ≡ (take 8 (name ++ gate ∷ header) ++ middle) ++ drop 9 (name ++ gate ∷ header) → length middle ≡ 1 → reading true (name ++ 1 ∷ header) ≡ made q → IsUnmadeOr q.history image
+by_middle gate [] header image q e one is = absurd (omega (arith, one))
+by_middle gate (b ∷ []) header image q e one is = subst (IsUnmadeOr q.history) (sym (e ∙ swapped gate b header)) (by_gate b header q (b == 1) refl is)
+by_middle gate (b ∷ c ∷ more) header image q e one is = absurd (omega (arith, one))
+
+pub torn_file : (file image header : List ℕ) (q : Place) → IsNew header file → reading true (name ++ 1 ∷ header) ≡ made q → Torn 8 1 file image → IsUnmadeOr q.history image
+torn_file file image header q n is torn =
+    let e : image ≡ (take 8 (name ++ n.gate ∷ header) ++ torn.middle) ++ drop 9 (name ++ n.gate ∷ header) = torn.is ∙ ap (λ (xs : List ℕ). (take 8 xs ++ torn.middle) ++ drop 9 xs) n.is in
+    by_middle n.gate torn.middle header image q e
+    (omega (arith, torn.no_more, torn.no_shorter, ap length n.is, ap length e, length-append (take 8 (name ++ n.gate ∷ header) ++ torn.middle) (drop 9 (name ++ n.gate ∷ header)), length-append (take 8 (name ++ n.gate ∷ header)) torn.middle)) is
+
+pub written_file : (file header : List ℕ) (q : Place) → IsNew header file → reading true (name ++ 1 ∷ header) ≡ made q → 9 + length header ≡ q.spot.gate + 1 → StandsAt q (written 8 (1 ∷ []) file)
+written_file file header q n is size =
+    let e : written 8 (1 ∷ []) file ≡ name ++ 1 ∷ header = ap (written 8 (1 ∷ [])) n.is in
+    record { is = ap (reading true) e ∙ is; last = ap length e ∙ size }
