@@ -15,3 +15,6 @@ one_less x xs =
 pub reverse_first : {A : Type 0} (xs : List A) → 0 < length xs → reverse (drop 1 xs) ≡ take (length (reverse xs) - 1) (reverse xs)
 reverse_first [] h = absurd (omega (arith, h))
 reverse_first (x ∷ xs) h = one_less x xs
+
+pub length_reversed : {A : Type 0} (xs : List A) → length (reverse xs) ≡ length xs
+length_reversed xs = length-reverse xs

@@ -76,7 +76,7 @@ impl Steps {
     }
 
     /// How many there are. It takes no memory.
-    #[tactic(auto, using(std::proofs::lemmas::List::length-reverse))]
+    #[tactic(auto, using(crate::proofs::Turned::length_reversed))]
     pub fn len(&self) -> usize
         ensures { result ≡ length self.now }
     {
@@ -109,7 +109,7 @@ impl Steps {
     }
 
     /// Drops the entry at the end. It takes no memory.
-    #[tactic(auto, using(crate::proofs::Turned::reverse_first, std::proofs::lemmas::List::length-reverse))]
+    #[tactic(auto, using(crate::proofs::Turned::reverse_first, crate::proofs::Turned::length_reversed))]
     pub fn drop_last(&mut self)
         requires { 0 < length self.old }
         ensures { self.new ≡ take (length self.old - 1) self.old }

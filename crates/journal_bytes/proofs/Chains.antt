@@ -108,9 +108,9 @@ module _ (may : Bool) (q : Place) (front : List ℕ) (x : ℕ) (old : List ℕ) 
       (walk (front ++ x ∷ old) may q (λ (p : Place). (p.spot.gate ≤ q.spot.gate) × (records_at (front ++ y ∷ new) may p ≡ records_at (front ++ y ∷ new) may q))
       (λ gate rest is closed. (omega arith, refl))
       (λ p r bytes opened is more.
-        let far = far_next (front ++ x ∷ old) may p r is in
-        let o = still_open p.spot.gate bytes (omega (arith, far, more.0, size)) opened in
-        (omega (arith, far, more.0), goes_behind (front ++ y ∷ new) may p (o.0 ++ y ∷ new) r o.1 (next_local front x old y new may p r is (omega (arith, more.0, size))) ∙ more.1)) n p e).1
+      let far = far_next (front ++ x ∷ old) may p r is in
+      let o = still_open p.spot.gate bytes (omega (arith, far, more.0, size)) opened in
+      (omega (arith, far, more.0), goes_behind (front ++ y ∷ new) may p (o.0 ++ y ∷ new) r o.1 (next_local front x old y new may p r is (omega (arith, more.0, size))) ∙ more.1)) n p e).1
 
 -- ---- the header
 

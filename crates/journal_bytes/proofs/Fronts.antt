@@ -74,8 +74,7 @@ takes_front n bytes x rest e =
     let rest_is : drop n bytes ≡ rest = ap (λ (p : List ℕ × List ℕ). p.1) both in
     let long : n ≤ length bytes = ltb-false _ _ g.0 in
     let size : length x ≡ n = omega (arith, sym (ap length x_is), length-take n bytes, long) in
-    let parts : bytes ≡ x ++ rest = sym (take-append-drop n bytes) ∙ ap (λ (t : List ℕ). t ++ drop n bytes) x_is ∙ ap (λ (t : List ℕ). x ++ t) rest_is in
-    (
+    let parts : bytes ≡ x ++ rest = sym (take-append-drop n bytes) ∙ ap (λ (t : List ℕ). t ++ drop n bytes) x_is ∙ ap (λ (t : List ℕ). x ++ t) rest_is in (
       record {
         front = x;
         parts = parts;
@@ -94,8 +93,7 @@ takes_number w bytes n rest e =
     let rest_is : drop k bytes ≡ rest = ap (λ (p : ℕ × List ℕ). p.1) both in
     let long : k ≤ length bytes = ltb-false _ _ g.0 in
     let size : length (take k bytes) ≡ k = omega (arith, length-take k bytes, long) in
-    let parts : bytes ≡ take k bytes ++ rest = sym (take-append-drop k bytes) ∙ ap (λ (t : List ℕ). take k bytes ++ t) rest_is in
-    (
+    let parts : bytes ≡ take k bytes ++ rest = sym (take-append-drop k bytes) ∙ ap (λ (t : List ℕ). take k bytes ++ t) rest_is in (
       record {
         front = take k bytes;
         parts = parts;

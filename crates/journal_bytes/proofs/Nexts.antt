@@ -190,8 +190,7 @@ module _ (front : List ℕ) (x : ℕ) (old : List ℕ) (y : ℕ) (new : List ℕ
       let t = takes_record (drop at (front ++ x ∷ old)) kind body rest read in
       let is = back at x old (omega (arith, le)) in
       let short : length (x ∷ old) ≤ length rest = omega (arith, t.1, ap length is, length-append (drop at front) (x ∷ old), length-drop at front, le) in
-      let l = local record_at (drop at (front ++ x ∷ old)) (kind, body) rest (drop at front) (x ∷ old) t.0 is short in
-      (
+      let l = local record_at (drop at (front ++ x ∷ old)) (kind, body) rest (drop at front) (x ∷ old) t.0 is short in (
         l.left,
         l.parts,
         ap record_at (back at y new (omega (arith, le))) ∙ l.again (y ∷ new),
@@ -236,14 +235,14 @@ module _ (front : List ℕ) (x : ℕ) (old : List ℕ) (y : ℕ) (new : List ℕ
   next_local may p q e le =
       ⊎_elim
       (λ (r : Records (front ++ x ∷ old) may p q).
-        let far = ap (λ (s : Spot). s.gate) (far_record p q (r.kind, r.body) r.leads) in
-        let l = local_record (p.spot.gate + 1) r.kind r.body r.rest (omega (arith, far, le)) r.read in
-        next_by_record (front ++ y ∷ new) may p q r.kind r.body (l.0 ++ y ∷ new) l.2 r.plain r.leads)
+      let far = ap (λ (s : Spot). s.gate) (far_record p q (r.kind, r.body) r.leads) in
+      let l = local_record (p.spot.gate + 1) r.kind r.body r.rest (omega (arith, far, le)) r.read in
+      next_by_record (front ++ y ∷ new) may p q r.kind r.body (l.0 ++ y ∷ new) l.2 r.plain r.leads)
       (λ (j : Jumps (front ++ x ∷ old) may p q).
-        let m = lands (front ++ x ∷ old) (p.spot.gate + 6) j.one q j.leads in
-        let far = far_jump (front ++ x ∷ old) (p.spot.gate + 6) j.one q m in
-        let l = local_record (p.spot.gate + 1) j.kind j.body j.rest (omega (arith, far, le, body_size j.body j.both j.of_body)) j.read in
-        next_by_jump (front ++ y ∷ new) may p q j.kind j.body (l.0 ++ y ∷ new) j.both j.one l.2 j.slots j.of_body j.is_present
-        (unread_same l.0 (omega (arith, far, le, body_size j.body j.both j.of_body, l.3)) (subst (λ (b : List ℕ). unread b ≡ true) l.1 j.closed))
-        (local_area (p.spot.gate + 6) j.one q j.leads le))
+      let m = lands (front ++ x ∷ old) (p.spot.gate + 6) j.one q j.leads in
+      let far = far_jump (front ++ x ∷ old) (p.spot.gate + 6) j.one q m in
+      let l = local_record (p.spot.gate + 1) j.kind j.body j.rest (omega (arith, far, le, body_size j.body j.both j.of_body)) j.read in
+      next_by_jump (front ++ y ∷ new) may p q j.kind j.body (l.0 ++ y ∷ new) j.both j.one l.2 j.slots j.of_body j.is_present
+      (unread_same l.0 (omega (arith, far, le, body_size j.body j.both j.of_body, l.3)) (subst (λ (b : List ℕ). unread b ≡ true) l.1 j.closed))
+      (local_area (p.spot.gate + 6) j.one q j.leads le))
       (next_cases (front ++ x ∷ old) may p q e)

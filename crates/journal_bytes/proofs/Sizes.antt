@@ -131,5 +131,17 @@ area_size format h can =
     let past = counted_bytes format h.past in
     let future = counted_bytes format h.future in
     let seq_size : length seq ≡ 8 = refl in
-    omega (arith, few.0, length-append state (seq ++ (past ++ future)), length-append seq (past ++ future), length-append past future, text_size (value_bytes h.state), state_size h.state can.state.accepted, seq_size,
-      length-append (to_be_bytes w32 (length h.past)) (steps_bytes format h.past), length-append (to_be_bytes w32 (length h.future)) (steps_bytes format h.future), steps_size format h.past can.past, steps_size format h.future can.future)
+    omega (
+      arith,
+      few.0,
+      length-append state (seq ++ (past ++ future)),
+      length-append seq (past ++ future),
+      length-append past future,
+      text_size (value_bytes h.state),
+      state_size h.state can.state.accepted,
+      seq_size,
+      length-append (to_be_bytes w32 (length h.past)) (steps_bytes format h.past),
+      length-append (to_be_bytes w32 (length h.future)) (steps_bytes format h.future),
+      steps_size format h.past can.past,
+      steps_size format h.future can.future,
+    )

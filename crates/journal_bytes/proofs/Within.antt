@@ -218,8 +218,7 @@ history_size format bytes h rest fits e =
     let sound = sound_of kept s.0 in
     let first = state_part bytes a.0.0 a.0.1 fits a.1 in
     let past = counted_size format b.0.1 c.0.0 c.0.1 (wide_bytes a.0.1 b.0.0 b.0.1 first.0 b.1) c.1 (light_out true c.0.0 a.0.0 sound.past) in
-    let future = counted_size format c.0.1 d.0.0 d.0.1 past.0 d.1 (light_out false d.0.0 a.0.0 sound.future) in
-    (
+    let future = counted_size format c.0.1 d.0.0 d.0.1 past.0 d.1 (light_out false d.0.0 a.0.0 sound.future) in (
       subst (λ (x : History). is_sound x ≡ true) (s.1 ∙ ap (λ (x : History × List ℕ). x.0) both) s.0,
       omega (arith, first.1, (takes_number w64 a.0.1 b.0.0 b.0.1 b.1).1, past.1, future.1, sound.few, ap length (ap (λ (x : History × List ℕ). x.1) both)),
     )

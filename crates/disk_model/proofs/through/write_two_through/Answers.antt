@@ -22,6 +22,5 @@ pub returns-clause-any_moment : goal.returns-clause-any_moment
 returns-clause-any_moment g c bytes holds settled =
     let d = g.D.Disk in
     let both = after_second d.told d.moment d.left_since d.may_leave c.args.disk.now c.write_at.new.self bytes c.args.first_at (length c.args.first.now) c.args.second_at (length c.args.second.now) (g.met.D.Disk.only_now _) settled holds c.write_at.ensures.images c.write_at.ensures.time
-        c.write_at-2.new.self c.write_at-2.ensures.images c.write_at-2.ensures.time in
+    c.write_at-2.new.self c.write_at-2.ensures.images c.write_at-2.ensures.time in
     goes_on_quiet d.moment d.left_since d.may_leave _ _ _ (TornTwice c.args.first_at (length c.args.first.now) c.args.second_at (length c.args.second.now) bytes) both c.sync.ensures.images c.sync.ensures.time
-
