@@ -5,12 +5,16 @@ use Rattle.std.proofs.lemmas.Bool.{eqb-true, le-leb}
 use Rattle.std.proofs.lemmas.List.{take_at, drop_at, drop_all, length-append}
 use Rattle.value_model.specs.Limits.{state_limit}
 use Rattle.value_model.specs.Plain.{Plain}
+use Rattle.std.proofs.Math.Seq.{take-add}
 use Rattle.disk_model.specs.Disk.{written, Torn, Cut, IsSettled, LeavesOnly}
 use Rattle.disk_model.proofs.Moments.{weaker}
 use Rattle.journal_bytes.specs.History.{History}
 use Rattle.journal_bytes.specs.Files.{Place, Spot, Reading, Class, Unmade, Holds, unmade, foreign, made, class, class_of, header_at, behind_header, behind_name, name, reading, StandsAt}
 use Rattle.patch_journal.specs.Journal.{Stands}
 use Rattle.patch_journal.specs.Making.{IsUnmade, IsUnmadeOr, Begins, IsNew}
+
+eight : length name ≡ 8
+eight = refl
 
 -- ---- files that are not made yet
 
@@ -59,16 +63,16 @@ written_header file header b = record {
 -- ---- the cut
 
 front_kept : (gate : ℕ) (rest : List ℕ) (k : ℕ) → take (9 + k) (name ++ gate ∷ rest) ≡ name ++ gate ∷ take k rest
-front_kept gate rest k = refl
+front_kept gate rest k = take-add 9 k (name ++ gate ∷ rest)
 
 short_or_named : (gate : ℕ) (rest : List ℕ) (n : ℕ) → (gate == 1) ≡ false → 9 ≤ n → IsUnmade (take n (name ++ gate ∷ rest))
 short_or_named gate rest n closed le =
     let far : n ≡ 9 + (n - 9) = omega (arith, le) in
-    subst (λ (k : ℕ). IsUnmade (take k (name ++ gate ∷ rest))) (sym far) (named_unmade gate (take (n - 9) rest) closed)
+    subst (λ (k : ℕ). IsUnmade (take k (name ++ gate ∷ rest))) (sym far) (subst IsUnmade (sym (front_kept gate rest (n - 9))) (named_unmade gate (take (n - 9) rest) closed))
 
 pub cut_unmade : (file image header : List ℕ) → Begins header file → Cut (9 + length header) file image → IsUnmade image
 cut_unmade file image header b cut =
-    let size : length file ≡ 9 + length (header ++ b.rest) = ap length b.is in
+    let size : length file ≡ 9 + length (header ++ b.rest) = omega (arith, ap length b.is, length-append name (b.gate ∷ (header ++ b.rest)), eight) in
     let is : image ≡ take (length image) (name ++ b.gate ∷ (header ++ b.rest)) = cut.front ∙ ap (take (length image)) b.is in
     subst IsUnmade (sym is) (short_or_named b.gate (header ++ b.rest) (length image) b.closed (omega (arith, cut.no_shorter, size)))
 
@@ -97,9 +101,41 @@ pub torn_file : (file image header : List ℕ) (q : Place) → IsNew header file
 torn_file file image header q n is torn =
     let e : image ≡ (take 8 (name ++ n.gate ∷ header) ++ torn.middle) ++ drop 9 (name ++ n.gate ∷ header) = torn.is ∙ ap (λ (xs : List ℕ). (take 8 xs ++ torn.middle) ++ drop 9 xs) n.is in
     by_middle n.gate torn.middle header image q e
-    (omega (arith, torn.no_more, torn.no_shorter, ap length n.is, ap length e, length-append (take 8 (name ++ n.gate ∷ header) ++ torn.middle) (drop 9 (name ++ n.gate ∷ header)), length-append (take 8 (name ++ n.gate ∷ header)) torn.middle)) is
+    (omega (arith, torn.no_more, torn.no_shorter, ap length n.is, ap length e, length-append (take 8 (name ++ n.gate ∷ header) ++ torn.middle) (drop 9 (name ++ n.gate ∷ header)), length-append (take 8 (name ++ n.gate ∷ header)) torn.middle, length-append name (n.gate ∷ header), eight)) is
 
 pub written_file : (file header : List ℕ) (q : Place) → IsNew header file → reading true (name ++ 1 ∷ header) ≡ made q → 9 + length header ≡ q.spot.gate + 1 → StandsAt q (written 8 (1 ∷ []) file)
 written_file file header q n is size =
     let e : written 8 (1 ∷ []) file ≡ name ++ 1 ∷ header = ap (written 8 (1 ∷ [])) n.is in
-    record { is = ap (reading true) e ∙ is; last = ap length e ∙ size }
+    record { is = ap (reading true) e ∙ is; last = omega (arith, ap length e, length-append name (1 ∷ header), eight, size) }
+
+-- ---- over a disk
+
+module _ {D : Type 0} (told : D → Option (List ℕ)) (moment : D → ℕ) (left_since : D → ℕ → List ℕ → Type 0) (may_leave : D → List ℕ → Type 0) (old new : D) (file : List ℕ) (holds : told old ≡ Some file) where
+  -- what a disk that tells these bytes has
+  pub of_told : (P : List ℕ → Type 0) → IfSome (told old) P → P file
+  of_told P h = subst (λ (o : Option (List ℕ)). IfSome o P) holds h
+
+  pub name_leaves : IfSome (told old) (λ f. length f ≤ 9) → LeavesOnly moment left_since may_leave old new (Torn 0 9 file) → LeavesOnly moment left_since may_leave old new IsUnmade
+  name_leaves short run = weaker moment left_since may_leave old new (Torn 0 9 file) IsUnmade (λ image torn. torn_name file image (of_told (λ f. length f ≤ 9) short) torn) run
+
+  pub header_leaves : (n : ℕ) → IfSome (told old) (Begins []) → LeavesOnly moment left_since may_leave old new (Torn 9 n file) → LeavesOnly moment left_since may_leave old new IsUnmade
+  header_leaves n begins run = weaker moment left_since may_leave old new (Torn 9 n file) IsUnmade (λ image torn. torn_header file image n (of_told (Begins []) begins) torn) run
+
+  pub cut_leaves_unmade : (header : List ℕ) → IfSome (told old) (Begins header) → LeavesOnly moment left_since may_leave old new (Cut (9 + length header) file) → LeavesOnly moment left_since may_leave old new IsUnmade
+  cut_leaves_unmade header begins run = weaker moment left_since may_leave old new (Cut (9 + length header) file) IsUnmade (λ image cut. cut_unmade file image header (of_told (Begins header) begins) cut) run
+
+  pub file_leaves : (header : List ℕ) (q : Place) → IfSome (told old) (IsNew header) → reading true (name ++ 1 ∷ header) ≡ made q → LeavesOnly moment left_since may_leave old new (Torn 8 1 file) → LeavesOnly moment left_since may_leave old new (IsUnmadeOr q.history)
+  file_leaves header q n is run = weaker moment left_since may_leave old new (Torn 8 1 file) (IsUnmadeOr q.history) (λ image torn. torn_file file image header q (of_told (IsNew header) n) is torn) run
+
+  pub file_stands : (header : List ℕ) (q : Place) → IfSome (told old) (IsNew header) → reading true (name ++ 1 ∷ header) ≡ made q → 9 + length header ≡ q.spot.gate + 1 → told new ≡ option_map (written 8 (1 ∷ [])) (told old) → IsSettled told may_leave new → Stands told may_leave new q
+  file_stands header q n is size done settled = record {
+    file = written 8 (1 ∷ []) file;
+    tells = done ∙ ap (option_map (written 8 (1 ∷ []))) holds;
+    settled = settled;
+    place = written_file file header q (of_told (IsNew header) n) is size;
+  }
+
+-- what a call makes of the bytes, where they are told
+pub then_told : (before after : Option (List ℕ)) (f : List ℕ → List ℕ) (P Q : List ℕ → Type 0) → after ≡ option_map f before → IfSome before P → ((file : List ℕ) → P file → Q (f file)) → IfSome after Q
+then_told None after f P Q e h leads = subst (λ (o : Option (List ℕ)). IfSome o Q) (sym e) tt
+then_told (Some file) after f P Q e h leads = subst (λ (o : Option (List ℕ)). IfSome o Q) (sym e) (leads file h)

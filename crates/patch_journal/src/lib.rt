@@ -1,7 +1,9 @@
 //! The journal of changes on a disk.
 #![tactic(auto)]
 
+mod cut;
 mod journal;
+mod make;
 mod pack;
 mod ready;
 mod write;
