@@ -65,3 +65,19 @@ fn open_file<D: Disk>(disk: &mut D, header: &[u8]) -> Result<(), Failed>
     write_through(disk, 8, &[1])?;
     Ok(())
 }
+
+/// Makes a file of so many bytes, which is a journal that isn't made yet, begin with the name and a closed file gate.
+fn begin_file<D: Disk>(disk: &mut D, size: u64) -> Result<(), Failed>
+    requires { IfSome (D.told disk.old) (λ file. (length file ≡ size) × (reading true file ≡ unmade)) }
+    ensures any_moment { (file : List ℕ) → D.told disk.old ≡ Some file → IsSettled D.told D.may_leave disk.old → LeavesOnly D.moment D.left_since D.may_leave disk.old disk.new IsUnmade }
+    ensures begins { OnOk result (IfSome (D.told disk.new) (Begins [])) }
+    ensures lasts { OnOk result (IsSettled D.told D.may_leave disk.old → IsSettled D.told D.may_leave disk.new) }
+    ensures tells { is_some (D.told disk.new) ≡ is_some (D.told disk.old) }
+    ensures later { D.moment disk.old ≤ D.moment disk.new }
+    ensures cause { HasCause (D.faults disk.old) (D.faults disk.new) result }
+{
+    if size <= 9 {
+        write_name(disk)?;
+    }
+    Ok(())
+}
