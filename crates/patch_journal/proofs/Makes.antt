@@ -1,13 +1,13 @@
 -- What each step of making may leave.
 use Rattle.std.proofs.Common.{◌≡◌, ℕ, zero, suc, ◌+◌, ◌-◌, ◌<◌, ◌≤◌, ◌==◌, min, Bool, true, false, cond, leb, eqb, List, [], ◌∷◌, ◌++◌, length, take, drop, Option, Some, None, refl, sym, ap, subst, ◌∙◌, append_assoc, append-nil, arith, ◌⊎◌, inl, inr}
-use Rattle.std.specs.Prelude.{option_map, IfSome}
+use Rattle.std.specs.Prelude.{option_map, IfSome, is_some}
 use Rattle.std.proofs.lemmas.Bool.{eqb-true, le-leb}
 use Rattle.std.proofs.lemmas.List.{take_at, drop_at, drop_all, length-append}
 use Rattle.value_model.specs.Limits.{state_limit}
 use Rattle.value_model.specs.Plain.{Plain}
 use Rattle.std.proofs.Math.Seq.{take-add}
 use Rattle.disk_model.specs.Disk.{written, Torn, Cut, IsSettled, LeavesOnly}
-use Rattle.disk_model.proofs.Moments.{weaker}
+use Rattle.disk_model.proofs.Moments.{weaker, together}
 use Rattle.journal_bytes.specs.History.{History}
 use Rattle.journal_bytes.specs.Files.{Place, Spot, Reading, Class, Unmade, Holds, unmade, foreign, made, class, class_of, header_at, behind_header, behind_name, name, reading, StandsAt}
 use Rattle.patch_journal.specs.Journal.{Stands}
@@ -139,3 +139,31 @@ module _ {D : Type 0} (told : D → Option (List ℕ)) (moment : D → ℕ) (lef
 pub then_told : (before after : Option (List ℕ)) (f : List ℕ → List ℕ) (P Q : List ℕ → Type 0) → after ≡ option_map f before → IfSome before P → ((file : List ℕ) → P file → Q (f file)) → IfSome after Q
 then_told None after f P Q e h leads = subst (λ (o : Option (List ℕ)). IfSome o Q) (sym e) tt
 then_told (Some file) after f P Q e h leads = subst (λ (o : Option (List ℕ)). IfSome o Q) (sym e) (leads file h)
+
+-- ---- one step behind another
+
+some_told : (x : Option (List ℕ)) → is_some x ≡ true → (file : List ℕ) × (x ≡ Some file)
+some_told None e = absurd cc
+some_told (Some file) e = (file, refl)
+
+is_told : (x : Option (List ℕ)) (file : List ℕ) → x ≡ Some file → is_some x ≡ true
+is_told x file e = ap is_some e
+
+module _ {D : Type 0} (told : D → Option (List ℕ)) (moment : D → ℕ) (left_since : D → ℕ → List ℕ → Type 0) (may_leave : D → List ℕ → Type 0) where
+  -- what a step of making leaves, from a settled disk that tells its bytes
+  abbrev pub Leaves : D → D → (List ℕ → Type 0) → Type 0
+  Leaves old new P = (file : List ℕ) → told old ≡ Some file → IsSettled told may_leave old → LeavesOnly moment left_since may_leave old new P
+
+  -- the bytes are told behind a step, too
+  pub told_behind : (old new : D) (file : List ℕ) → told old ≡ Some file → is_some (told new) ≡ is_some (told old) → (next : List ℕ) × (told new ≡ Some next)
+  told_behind old new file holds tells = some_told (told new) (tells ∙ is_told (told old) file holds)
+
+  -- two steps
+  pub leaves_then : (old mid new : D) (P : List ℕ → Type 0) (file : List ℕ) → told old ≡ Some file → is_some (told mid) ≡ is_some (told old) → LeavesOnly moment left_since may_leave old mid P → IsSettled told may_leave mid → Leaves mid new P
+      → LeavesOnly moment left_since may_leave old new P
+  leaves_then old mid new P file holds tells run settled more =
+      let f = told_behind old mid file holds tells in
+      together moment left_since may_leave old mid new P run (more f.0 f.1 settled)
+
+  pub unmade_or : (old new : D) (h : History) → LeavesOnly moment left_since may_leave old new IsUnmade → LeavesOnly moment left_since may_leave old new (IsUnmadeOr h)
+  unmade_or old new h run = weaker moment left_since may_leave old new IsUnmade (IsUnmadeOr h) (λ image is. inl is) run

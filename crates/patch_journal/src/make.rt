@@ -76,8 +76,29 @@ fn begin_file<D: Disk>(disk: &mut D, size: u64) -> Result<(), Failed>
     ensures later { D.moment disk.old ≤ D.moment disk.new }
     ensures cause { HasCause (D.faults disk.old) (D.faults disk.new) result }
 {
-    if size <= 9 {
-        write_name(disk)?;
+    if size > 9 {
+        return Ok(());
     }
+    write_name(disk)?;
+    Ok(())
+}
+
+/// Makes a journal of this header on a file of so many bytes, which is a journal that isn't made yet.
+///
+/// A crash within the call leaves it not made, or made. Afterwards it is made, and the disk is settled.
+pub(crate) fn make_at<D: Disk>(disk: &mut D, size: u64, header: &[u8]) -> Result<(), Failed>
+    requires unmade { IfSome (D.told disk.old) (λ file. (length file ≡ size) × (reading true file ≡ unmade)) }
+    requires within { length header.now < 2 ^ 62 }
+    ensures any_moment { (file : List ℕ) (q : Place) → D.told disk.old ≡ Some file → IsSettled D.told D.may_leave disk.old → reading true (name ++ 1 ∷ header.now) ≡ made q
+        → LeavesOnly D.moment D.left_since D.may_leave disk.old disk.new (IsUnmadeOr q.history) }
+    ensures lasts { OnOk result ((file : List ℕ) (q : Place) → D.told disk.old ≡ Some file → reading true (name ++ 1 ∷ header.now) ≡ made q → 9 + length header.now ≡ q.spot.gate + 1 → Stands D.told D.may_leave disk.new q) }
+    ensures tells { is_some (D.told disk.new) ≡ is_some (D.told disk.old) }
+    ensures later { D.moment disk.old ≤ D.moment disk.new }
+    ensures cause { HasCause (D.faults disk.old) (D.faults disk.new) result }
+{
+    begin_file(disk, size)?;
+    write_header(disk, header)?;
+    cut_header(disk, header)?;
+    open_file(disk, header)?;
     Ok(())
 }
