@@ -1,5 +1,6 @@
 -- A journal that isn't made yet and has more than 9 bytes begins with the name and a closed file gate.
 use Rattle.std.proofs.Common.{◌≡◌, ℕ, zero, suc, ◌+◌, ◌<◌, ◌≤◌, ◌==◌, Bool, true, false, cond, leb, List, [], ◌∷◌, ◌++◌, length, take, drop, Option, Some, None, refl, sym, ap, ◌∙◌, arith}
+use Rattle.std.specs.Prelude.{IfSome}
 use Rattle.std.specs.Str.{bytes_eq}
 use Rattle.std.proofs.lemmas.Bool.{lt-leb}
 use Rattle.std.proofs.lemmas.List.{take-append-drop, length-drop}
@@ -53,3 +54,8 @@ module _ (file : List ℕ) (long : 9 < length file) where
   unmade_begins e =
       by_name (bytes_eq (take 8 file) name) refl
       (sym (ap (λ (b : Bool). cond b unmade (cond (bytes_eq (take 8 file) name) (behind_name file true (drop 8 file)) (foreign 0))) (lt-leb (length file) 9 long)) ∙ e)
+
+-- the same of the bytes that a disk tells
+pub begins_told : (told : Option (List ℕ)) (size : ℕ) → 9 < size → IfSome told (λ file. (length file ≡ size) × (reading true file ≡ unmade)) → IfSome told (Begins [])
+begins_told None size lt h = tt
+begins_told (Some file) size lt h = unmade_begins file (omega (arith, lt, h.0)) h.1
