@@ -32,8 +32,8 @@ word_byte : (n : ℕ) → in_word n ≡ true → n < 128
 word_byte n h =
     by_or (is_ascii_alphanumeric n) (n == 95 || n == 36) n
     (λ a. by_or (is_in_range 48 57 n || is_in_range 65 90 n) (is_in_range 97 122 n) n
-      (λ b. by_or (is_in_range 48 57 n) (is_in_range 65 90 n) n (in_range 48 57 n (omega arith)) (in_range 65 90 n (omega arith)) b)
-      (in_range 97 122 n (omega arith)) a)
+    (λ b. by_or (is_in_range 48 57 n) (is_in_range 65 90 n) n (in_range 48 57 n (omega arith)) (in_range 65 90 n (omega arith)) b)
+    (in_range 97 122 n (omega arith)) a)
     (λ a. by_or (n == 95) (n == 36) n (is_byte 95 n (omega arith)) (is_byte 36 n (omega arith)) a) h
 
 ascii : (bytes : List ℕ) → list_all in_word bytes ≡ true → IsAscii bytes

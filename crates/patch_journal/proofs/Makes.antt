@@ -27,7 +27,7 @@ unfolding reading
 named_unmade gate rest closed =
     ap class_of
     (by_size (leb (length (name ++ gate ∷ rest)) 9) (behind_name (name ++ gate ∷ rest) true (gate ∷ rest))
-      (ap (λ (b : Bool). cond b (behind_header (name ++ gate ∷ rest) true (header_at rest)) unmade) closed))
+    (ap (λ (b : Bool). cond b (behind_header (name ++ gate ∷ rest) true (header_at rest)) unmade) closed))
 
 pub short_unmade : (file : List ℕ) → length file ≤ 9 → IsUnmade file
 unfolding reading
