@@ -1,7 +1,9 @@
 -- What code answers, beside the definition that it follows.
-use Rattle.std.specs.Prelude.{◌≡◌, Option, Some, None, Result, Ok, Err}
+use Rattle.std.specs.Prelude.{◌≡◌, false, Option, Some, None, Result, Ok, Err}
 use Rattle.value_bytes_spec.specs.Spelling.{CanSpell}
 use Rattle.values.specs.declared.patch.Pair.{Pair}
+use Rattle.value_bytes_spec.specs.Reading.{◌>>=◌}
+use Rattle.journal_bytes.specs.History.{History, Step, stepped, with_change}
 use Rattle.journal_bytes.specs.declared.change.Change.{Change}
 use Rattle.journal_bytes.specs.declared.change.Change.TheVariants.{Made, Undone, Redone}
 use Rattle.durable_history.specs.declared.stop.Stop.{Stop}
@@ -26,3 +28,9 @@ abbrev pub CanKeep : Change → Type 0
 CanKeep (Made pair by) = CanSpellPair pair
 CanKeep Undone = Unit {0}
 CanKeep Redone = Unit {0}
+
+-- the history with a change, where its patches lead to a state and back
+abbrev pub made_of : Step → History → Option History
+made_of e h = do
+  v ← stepped false e h.state
+  Some (with_change e h v)

@@ -1,7 +1,6 @@
-ghost use Rattle.std.specs.Prelude.{◌≡◌, ◌≤◌, ◌<◌, ◌^◌, ◌∷◌, length, take, Some, None, OnOk};
-ghost use Rattle.value_bytes_spec.specs.Reading.{◌>>=◌};
-ghost use Rattle.journal_bytes.specs.History.{begun, changed, done, stepped as stepped_of, with_change, undone as undone_of, redone as redone_of};
-ghost use Rattle.durable_history.specs.Gives.{Gives, CanKeep, CanSpellPair};
+ghost use Rattle.std.specs.Prelude.{◌≡◌, ◌≤◌, ◌<◌, ◌^◌, ◌∷◌, length, take, OnOk};
+ghost use Rattle.journal_bytes.specs.History.{begun, changed, done, undone as undone_of, redone as redone_of};
+ghost use Rattle.durable_history.specs.Gives.{Gives, CanKeep, CanSpellPair, made_of};
 
 use crate::patches::{led, stepped};
 use crate::steps::{Step, Steps};
@@ -75,7 +74,7 @@ impl Durable {
         requires few { length self.past ≤ 100 }
         requires low { self.seq < 2 ^ 36 }
         requires keep { CanSpellPair pair }
-        ensures { Gives (λ d. d) result (stepped_of false (record { pair = pair; by = by }) self.state >>= λ v. Some (with_change (record { pair = pair; by = by }) self v)) }
+        ensures { Gives (λ d. d) result (made_of (record { pair = pair; by = by }) self) }
     {
         let state = stepped(alloc, false, &pair, &by, &self.state)?;
         let step = Step {

@@ -20,9 +20,9 @@ impl Model for Step {
     ghost Value = { StepModel };
 
     ghost use Rattle.std.specs.Coded.{codes};
-    ghost use Rattle.values.specs.contracts.patch.Pair as pair;
+    ghost use Rattle.values.specs.contracts.patch.Pair as pair_row;
 
-    ghost coded = { Prim.hlevel (codes, pair.the_row.coded) };
+    ghost coded = { Prim.hlevel (codes, pair_row.the_row.coded) };
 
     ghost view = { λ s. record { pair = s.pair; by = s.by } };
 }
@@ -58,9 +58,9 @@ impl Model for Steps {
     ghost Value = { List StepModel };
 
     ghost use Rattle.std.specs.Coded.{codes};
-    ghost use Rattle.values.specs.contracts.patch.Pair as pair;
+    ghost use Rattle.values.specs.contracts.patch.Pair as pair_row;
 
-    ghost coded = { Prim.hlevel (codes, pair.the_row.coded) };
+    ghost coded = { Prim.hlevel (codes, pair_row.the_row.coded) };
 
     ghost view = { λ s. reverse s.rows.items };
 }
