@@ -1,3 +1,0 @@
-pub mod Names
-pub mod Taken
-pub mod Turned

@@ -1,2 +1,0 @@
-pub mod Lookings
-pub mod Nexts
