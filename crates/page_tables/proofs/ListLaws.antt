@@ -13,7 +13,7 @@ use Rattle.page_tables.proofs.PageLaws.{grown_refl, grown_then}
 use Rattle.page_tables.proofs.LaidLaws.{laid_pushed, pushed_most, kept_below}
 
 -- ---- puts, one entry after another
-not_put : (i : ℕ) (rs : List (Key × Cell)) → after_puts i rs [] ≡ rs
+pub not_put : (i : ℕ) (rs : List (Key × Cell)) → after_puts i rs [] ≡ rs
 not_put i [] = refl
 not_put i (r ∷ rs) = ap (λ (qs : List (Key × Cell)). r ∷ qs) (not_put (i + 1) rs)
 
