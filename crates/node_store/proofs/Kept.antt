@@ -11,7 +11,7 @@ use Rattle.numbered.proofs.Laws.{used_append}
 use Rattle.page_tables.specs.declared.cell.Cell.{Cell}
 use Rattle.page_tables.specs.Pages as pages
 use Rattle.page_tables.specs.Pages.{paged, joined, table, in_pages, AllBelow, IsGrown, Pushed}
-use Rattle.page_tables.proofs.PageLaws.{pushed_grown, pushed_below, pushed_paged, few_pages, joined_pages, starts_inside}
+use Rattle.page_tables.proofs.PageLaws.{cut_back, pushed_grown, pushed_table, pushed_below, pushed_paged, few_pages, starts_inside}
 use Rattle.node_store.specs.declared.held.Held.{Held}
 use Rattle.node_store.specs.declared.held.Measures.{Measures}
 use Rattle.node_store.specs.Added.{IsTallied, IsHolding}
@@ -43,9 +43,26 @@ fitting ps hs now of rs view s k full =
     omega (arith, most, same, rows, light)
 
 -- ---- one more node
+-- its entries stand in these pages
+pub record IsPlaced (ps : List (List (Key × Cell))) (rs : List (Key × Cell)) (qs : List (List (Key × Cell))) (ns : List ℕ) : Type 0 where
+  pub grown : IsGrown ps qs
+  pub rows : table qs ns ≡ rs
+  pub given : AllBelow (length qs) ns
+  pub inside : AllBelow (length rs) (pages.starts 0 (paged qs ns))
+  pub fit : length qs ≤ length ps + length rs
+
+pub placed_pushed : (ps qs : List (List (Key × Cell))) (ns : List ℕ) (rs : List (Key × Cell)) → Pushed ps [] qs ns rs → IsPlaced ps rs qs ns
+placed_pushed ps qs ns rs h = record {
+  grown = pushed_grown ps [] qs ns rs h;
+  rows = pushed_table ps qs ns rs h;
+  given = pushed_below ps qs ns rs h;
+  inside = subst (λ us. AllBelow (length rs) (pages.starts 0 us)) (sym (pushed_paged ps qs ns rs h)) (starts_inside rs);
+  fit = let count = ap length h.pages ∙ length-append ps (in_pages rs) in let few = few_pages rs in omega (arith, count, few);
+}
+
 -- what is held of it
 pub record IsHeldFor (ps : List (List (Key × Cell))) (ts : List Tree) (of : Kind) (rs : List (Key × Cell)) (m : Measures) (u : ℕ) (qs : List (List (Key × Cell))) (ns : List ℕ) (h : Held) : Type 0 where
-  pub pushed : Pushed ps [] qs ns rs
+  pub placed : IsPlaced ps rs qs ns
   pub below : CellsBelow ts (map (λ r. r.1) rs)
   pub next : IsNext ts (formed ts of rs)
   pub tallied : IsTallied (formed ts of rs) m
@@ -58,19 +75,18 @@ pub record IsHeldFor (ps : List (List (Key × Cell))) (ts : List Tree) (of : Kin
   pub total : h.total ≡ u + m.own
   pub measures : IsHolding h m
 
-kept_for : (ps : List (List (Key × Cell))) (ts : List Tree) (of : Kind) (rs : List (Key × Cell)) (m : Measures) (u : ℕ) (qs : List (List (Key × Cell))) (ns : List ℕ) (h : Held) → IsHeldFor ps ts of rs m u qs ns h → u ≡ used ts → length ps ≤ used ts → IsKept (in_pages rs) ts h
+kept_for : (ps : List (List (Key × Cell))) (ts : List Tree) (of : Kind) (rs : List (Key × Cell)) (m : Measures) (u : ℕ) (qs : List (List (Key × Cell))) (ns : List ℕ) (h : Held) → IsHeldFor ps ts of rs m u qs ns h → u ≡ used ts → length ps ≤ used ts → IsKept (paged qs ns) ts h
 kept_for ps ts of rs m u qs ns h f e l =
-    let us = in_pages rs in
-    let j : joined us ≡ rs = joined_pages rs in
-    let p : paged qs ns ≡ us = pushed_paged ps qs ns rs f.pushed in
+    let us = paged qs ns in
+    let j : joined us ≡ rs = f.placed.rows in
     let t : formed ts of rs ≡ formed ts h.node.kind (joined us) = λ i. formed ts (sym f.kind i) (sym j i) in
     record {
       below = subst (λ (q : List (Key × Cell)). CellsBelow ts (map (λ r. r.1) q)) (sym j) f.below;
       next = subst (IsNext ts) t f.next;
       count = f.count ∙ ap length (sym j);
-      inside = subst (λ n. AllBelow n (pages.starts 0 us)) (ap length (sym j)) (starts_inside rs);
-      starts = f.starts ∙ ap (pages.starts 0) p;
-      before = f.before ∙ ap (λ (vs : List (List (Key × Cell))). picked (sums ts 0 (map (λ r. r.1) rs)) (pages.starts 0 vs)) p ∙ ap (λ (q : List (Key × Cell)). picked (sums ts 0 (map (λ r. r.1) q)) (pages.starts 0 us)) (sym j);
+      inside = subst (λ n. AllBelow n (pages.starts 0 us)) (ap length (sym j)) f.placed.inside;
+      starts = f.starts;
+      before = f.before ∙ ap (λ (q : List (Key × Cell)). picked (sums ts 0 (map (λ r. r.1) q)) (pages.starts 0 us)) (sym j);
       total = let a = f.total in let b = f.tallied.own in let w = ap own_weight t in omega (arith, a, b, w, e);
       weight = f.measures.weight ∙ f.tallied.weight ∙ ap (λ (v : Tree). plain_value.weight (plain v)) t;
       values = f.measures.values ∙ f.tallied.values ∙ ap (λ (v : Tree). plain_value.values (plain v)) t;
@@ -80,10 +96,9 @@ kept_for ps ts of rs m u qs ns h f e l =
           let a = f.after in
           let b = f.total in
           let o = f.tallied.own in
-          let count = ap length f.pushed.pages ∙ length-append ps us in
-          let few = few_pages rs in
+          let fit = f.placed.fit in
           let rows = rows_weigh ts of rs in
-          omega (arith, a, b, o, count, few, rows, e, l);
+          omega (arith, a, b, o, fit, rows, e, l);
     }
 
 -- the store with it
@@ -98,22 +113,21 @@ pub added : (ps : List (List (Key × Cell))) (hs : List Held) (of : Kind) (rs : 
 unfolding states
 added ps hs of rs m u qs ns h gs s k e f g =
     let ts = standing ps [] (listed hs) in
-    let grown = pushed_grown ps [] qs ns rs f.pushed in
+    let grown = f.placed.grown in
     let same : standing qs [] (listed hs) ≡ ts = standing_grown ps qs 0 [] (listed hs) grown k in
     let nodes : listed gs ≡ listed hs ++ h.node ∷ [] = ap listed g ∙ listed_push hs h in
-    let p : paged qs h.node.names ≡ in_pages rs = ap (paged qs) f.names ∙ pushed_paged ps qs ns rs f.pushed in
-    let kept : IsKept (in_pages rs) ts h = kept_for ps ts of rs m u qs ns h f e (pages_light ps [] hs (length ps) 0 s k (omega arith)) in
-    let here : IsKept (paged qs h.node.names) (standing qs [] (listed hs)) h = subst (λ vs. IsKept (paged qs h.node.names) vs h) (sym same) (subst (λ us. IsKept us ts h) (sym p) kept) in
-    let new : formed ts h.node.kind (table qs h.node.names) ≡ formed ts of rs = λ i. formed ts (f.kind i) ((ap joined p ∙ joined_pages rs) i) in
+    let kept : IsKept (paged qs ns) ts h = kept_for ps ts of rs m u qs ns h f e (pages_light ps [] hs (length ps) 0 s k (omega arith)) in
+    let here : IsKept (paged qs h.node.names) (standing qs [] (listed hs)) h = subst (λ vs. IsKept (paged qs h.node.names) vs h) (sym same) (subst (λ ks. IsKept (paged qs ks) ts h) (sym f.names) kept) in
+    let new : formed ts h.node.kind (table qs h.node.names) ≡ formed ts of rs = λ i. formed ts (f.kind i) ((ap (table qs) f.names ∙ f.placed.rows) i) in
     let whole : standing qs [] (listed gs) ≡ ts ++ formed ts of rs ∷ [] =
     ap (standing qs []) nodes ∙ standing_push qs [] (listed hs) h.node ∙ ap (λ (vs : List Tree). vs ++ formed vs h.node.kind (table qs h.node.names) ∷ []) same ∙ ap (λ (t : Tree). ts ++ t ∷ []) new in
     record {
-      named = subst (InPages (length qs) 0) (sym nodes) (in_pages_push (length ps) (length qs) 0 (listed hs) h.node k grown.longer f.after (subst (AllBelow (length qs)) (sym f.names) (pushed_below ps qs ns rs f.pushed)));
+      named = subst (InPages (length qs) 0) (sym nodes) (in_pages_push (length ps) (length qs) 0 (listed hs) h.node k grown.longer f.after (subst (AllBelow (length qs)) (sym f.names) f.placed.given));
       sound = subst (Sound qs []) (sym g) (sound_push qs [] hs h (sound_grown ps qs 0 [] hs grown k s) here);
       used = let o = f.tallied.own in let more = used_append ts (formed ts of rs ∷ []) in let w = ap used whole in omega (arith, o, more, w, e);
       states_are = whole;
       longer = record {
         nodes = ap (take (length (listed hs))) nodes ∙ take_front (listed hs) (h.node ∷ []);
-        pages = ap (take (length ps)) f.pushed.pages ∙ take_front ps (in_pages rs);
+        pages = cut_back ps qs grown;
       };
     }

@@ -4,7 +4,9 @@ pub mod Grown
 pub mod Kept
 pub mod Loads
 pub mod Ordered
+pub mod Remade
 pub mod Shown
 pub mod Sums
 pub mod Tables
 pub mod Unfolds
+pub mod Weighed

@@ -29,7 +29,7 @@ keys_ascend (branch k v es) h i zero a b l p q = absurd (omega (arith, l))
 keys_ascend (branch k v es) h zero (suc j) a b l p q = let e : k ≡ a = cc in subst (λ x. key_cmp x b ≡ Less) e (keys_above k es j b (left_true _ _ h) q)
 keys_ascend (branch k v es) h (suc i) (suc j) a b l p q = keys_ascend es (right_true _ _ h) i j a b (omega (arith, l)) p q
 
-sorted_at : (of : Kind) (es : List (Key × Plain)) → of ≢ kind.List → IsTrue (ascends_at of es) → is_sorted key_cmp es ≡ true
+pub sorted_at : (of : Kind) (es : List (Key × Plain)) → of ≢ kind.List → IsTrue (ascends_at of es) → is_sorted key_cmp es ≡ true
 sorted_at kind.List es d h = absurd (d refl)
 sorted_at kind.Obj es d h = h
 sorted_at kind.Map es d h = h

@@ -11,7 +11,8 @@ use Rattle.numbered.specs.Laws.{Extends, state_at}
 use Rattle.numbered.proofs.Laws.{number_at, of_number}
 use Rattle.page_tables.specs.declared.cell.Cell.{Cell}
 use Rattle.page_tables.specs.declared.cell.Cell.TheVariants as cell
-use Rattle.node_store.specs.Nodes.{key_of, null_row, rows, CellBelow, CellsBelow, cell_tree, branches, cell_of, cells_in, keys_in}
+use Rattle.page_tables.specs.Listing.{null_row}
+use Rattle.node_store.specs.Nodes.{key_of, rows, CellBelow, CellsBelow, cell_tree, branches, cell_of, cells_in, keys_in}
 use Rattle.node_store.specs.Kept.{sums, IsPaired}
 
 -- ---- a store that grew

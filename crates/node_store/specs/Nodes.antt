@@ -12,6 +12,7 @@ use Rattle.numbered.specs.Tree.{Tree, Branches, prim, node, none, branch, branch
 use Rattle.numbered.specs.Store.{IsNumber, tree_at}
 use Rattle.page_tables.specs.declared.cell.Cell.{Cell}
 use Rattle.page_tables.specs.declared.cell.Cell.TheVariants as cell
+use Rattle.page_tables.specs.Listing.{null_row}
 
 -- an object's key is a text, and in a Set each cell is its key
 abbrev pub cell_fits : Kind → Key → Cell → Bool
@@ -46,10 +47,6 @@ is_node kind ks cs = ascending ks && cells_fit kind ks cs
 abbrev pub key_of : Cell → Key
 key_of (cell.Prim k) = k
 key_of (cell.Node id) = key.Null
-
--- an entry of a list
-abbrev pub null_row : Cell → Key × Cell
-null_row c = (key.Null, c)
 
 -- the entries of a table: in a list under null, in a Set each member under itself
 abbrev pub rows : Kind → List Key → List Cell → List (Key × Cell)

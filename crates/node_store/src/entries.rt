@@ -2,7 +2,8 @@
 ghost use Rattle.std.specs.Prelude.{◌≡◌, map, IfOk};
 ghost use Rattle.std.specs.List.{zip};
 ghost use Rattle.value_model.specs.declared.key.Key.TheVariants as key;
-ghost use Rattle.node_store.specs.Nodes.{rows, null_row};
+ghost use Rattle.page_tables.specs.Listing.{null_row};
+ghost use Rattle.node_store.specs.Nodes.{rows};
 
 use crate::node::Node;
 use page_tables::{Cell, Row};

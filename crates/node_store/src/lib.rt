@@ -7,9 +7,11 @@
 #![tactic(auto)]
 
 mod add;
+mod edits;
 mod entries;
 mod fault;
 mod held;
+mod hold;
 mod laws;
 mod load;
 mod node;
@@ -19,11 +21,13 @@ mod store;
 mod table;
 mod tally;
 mod unfold;
+mod weigh;
 
+pub use edits::Edits;
 pub use fault::StoreFault;
 pub use held::{Listed, Names};
 pub use laws::{law_load_full, law_loading, law_numbered_states, law_states_are_nodes};
 pub use node::{Cells, Keys, Node};
-pub use page_tables::{Cell, NodeId};
+pub use page_tables::{Cell, Edit, Listing, NodeId, Put};
 pub use store::{Mark, Store};
 pub use value_model::Kind;

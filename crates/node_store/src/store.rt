@@ -1,4 +1,7 @@
+use crate::edits::{Edits, rename};
+use crate::fault::StoreFault;
 use crate::held::{Held, Listed, Measures, Names};
+use crate::hold::hold;
 use crate::places::{Seats, seat};
 use page_tables::{NodeId, Pages, Row};
 use std::alloc::{AllocError, Global};
@@ -53,13 +56,15 @@ impl Model for Mark {
 }
 
 impl Store {
-    ghost use Rattle.std.specs.Prelude.{◌≡◌, ◌+◌, ◌/◌, ◌<◌, ◌≤◌, ◌^◌, [], ◌∷◌, ◌++◌, length, map, take, false, get_or, IfOk, OnErr};
+    ghost use Rattle.std.specs.Prelude.{◌≡◌, ◌+◌, ◌*◌, ◌/◌, ◌<◌, ◌≤◌, ◌^◌, [], ◌∷◌, ◌++◌, length, map, take, true, false, get_or, IfOk, OnOk, OnErr, IsErrOf};
     ghost use Rattle.numbered.specs.Store.{IsStore, IsNext, is_full, tree_at, used as used_by};
     ghost use Rattle.page_tables.specs.Pages.{in_pages};
+    ghost use Rattle.page_tables.specs.Rebuilt.{olds};
     ghost use Rattle.node_store.specs.Added.{IsTallied};
+    ghost use Rattle.node_store.specs.Edited.{after_edits, entries_of, AreReady, left, changes, pushes, remade};
     ghost use Rattle.node_store.specs.Kept.{sums as sums_of};
     ghost use Rattle.node_store.specs.Nodes.{cells_of, CellsBelow, formed};
-    ghost use Rattle.node_store.specs.Paged.{states, first, pages_after, rows_at, IsLonger};
+    ghost use Rattle.node_store.specs.Paged.{states, first, pages_after, listed_at, rows_at, IsLonger};
     ghost use Rattle.node_store.specs.Shown.{IsRead, IsRow, IsSized};
 
     /// A store without nodes.
@@ -218,10 +223,60 @@ impl Store {
             }
         }
     }
+
+    /// Adds the node that another one becomes with edits.
+    pub(crate) fn keep_from(
+        &mut self,
+        alloc: Global,
+        base: NodeId,
+        edits: &Edits,
+    ) -> Result<NodeId, StoreFault>
+        requires number { base ≤ length (states self.old) }
+        requires ready { AreReady self.old.pages (listed_at self.old base).names edits.now }
+        requires below { CellsBelow (states self.old) (map (λ r. r.1) (after_edits (entries_of (tree_at (states self.old) base)) edits.now)) }
+        requires next { IsNext (states self.old) (remade (states self.old) base edits.now) }
+        ensures ok { IfOk result (λ id. (id ≡ length (states self.new)) × (states self.new ≡ states self.old ++ remade (states self.old) base edits.now ∷ [])) }
+        ensures room { OnOk result (is_full (states self.old) (remade (states self.old) base edits.now) ≡ false) }
+        ensures full { IsErrOf result StoreFault.Full → is_full (states self.old) (remade (states self.old) base edits.now) ≡ true }
+        ensures longer { IfOk result (λ _. IsLonger self.old self.new) }
+        ensures again { IfOk result (λ id. olds (length self.old.pages) (listed_at self.new id).names ≡ left self.old.pages (listed_at self.old base).names edits.now) }
+        ensures few { IfOk result (λ _. length self.new.pages ≤ length self.old.pages + 2 * changes edits.now + 2 + pushes edits.now / 64) }
+        ensures stands { OnErr result (self.new ≡ self.old) }
+    {
+        self.nodes.reserve(1)?;
+        let most = self.pages.len();
+        let from = &self.nodes[(base.get() - 1) as usize];
+        let kind = from.node.kind;
+        let names = rename(alloc, &mut self.pages, from.node.names.as_slice(), edits)?;
+        match hold(
+            alloc,
+            &self.pages,
+            self.nodes.as_slice(),
+            names,
+            kind,
+            self.used,
+        ) {
+            Ok(held) => {
+                self.used = held.total as u64;
+                self.nodes.push_reserved(held);
+                Ok(NodeId::nth(self.nodes.len() as u64))
+            }
+            Err(fault) => {
+                self.pages.cut_to(most);
+                Err(fault)
+            }
+        }
+    }
 }
 
 /// What is held of a node of these measures.
-fn held_of(node: Listed, seats: Seats, count: u32, total: u64, measures: Measures) -> Held
+pub(crate) fn held_of(
+    node: Listed,
+    seats: Seats,
+    count: u32,
+    total: u64,
+    measures: Measures,
+) -> Held
     requires total { total ≤ 2 ^ 25 }
     requires small { IsSmallTally measures }
     ensures node { result.node ≡ node }

@@ -1,4 +1,6 @@
 pub mod EditLaws
+pub mod LaidLaws
+pub mod ListLaws
 pub mod OrderLaws
 pub mod PageLaws
 pub mod PlaceLaws

@@ -1,11 +1,11 @@
 -- Tables in pages: laws.
-use Rattle.std.proofs.Common.{◌≡◌, ℕ, suc, ◌+◌, ◌*◌, ◌/◌, ◌<◌, ◌≤◌, List, [], ◌∷◌, ◌++◌, length, get_or, take, refl, ap, sym, ◌∙◌, subst, arith, length-append, true, false}
-use Rattle.std.specs.Prelude.{nat_lt, if◌then◌else◌, ⊤}
+use Rattle.std.proofs.Common.{◌≡◌, ℕ, suc, ◌+◌, ◌*◌, ◌/◌, ◌<◌, ◌≤◌, List, [], ◌∷◌, ◌++◌, length, take, refl, ap, sym, ◌∙◌, subst, arith, length-append, true, false}
+use Rattle.std.specs.Prelude.{nat_lt, if◌then◌else◌}
 use Rattle.std.proofs.lemmas.List.{append_assoc, get_or_append_left, get_or_at}
-use Rattle.std.proofs.lemmas.Grind.{common_steps, elements}
+use Rattle.std.proofs.lemmas.Grind.{common_steps}
 use Rattle.value_model.specs.declared.key.Key.{Key}
 use Rattle.page_tables.specs.declared.cell.Cell.{Cell}
-use Rattle.page_tables.specs.Pages.{IsPage, page, paged, joined, table, starts, AllBelow, close, filled, in_pages, numbers_from, IsGrown, Pushed}
+use Rattle.page_tables.specs.Pages.{page, paged, joined, table, starts, AllBelow, filled, in_pages, numbers_from, AllSome, IsGrown, Pushed}
 
 pub grown_refl : (ps : List (List (Key × Cell))) → IsGrown ps ps
 grown_refl ps = record { longer = omega arith; same = λ n h. refl }
@@ -125,10 +125,6 @@ pub pushed_paged : (ps qs : List (List (Key × Cell))) (ns : List ℕ) (rs : Lis
 pushed_paged ps qs ns rs h = (λ i. paged (h.pages i) (h.names i)) ∙ paged_added ps (in_pages rs)
 
 -- ---- no page is empty, so each begins before the end of the table
-abbrev pub AllSome : List (List (Key × Cell)) → Type 0
-AllSome [] = ⊤
-AllSome (p ∷ ps) = (1 ≤ length p) × AllSome ps
-
 filled_some : (begun rs : List (Key × Cell)) → AllSome (filled begun rs)
 filled_some [] [] = tt
 filled_some (o ∷ begun) [] = (omega arith, tt)

@@ -1,10 +1,10 @@
 -- Where the entries of a table's pages begin, so that an entry is found by its index: laws.
-use Rattle.std.proofs.Common.{◌≡◌, ℕ, zero, suc, ◌+◌, ◌-◌, ◌<◌, ◌≤◌, List, [], ◌∷◌, ◌++◌, length, get_or, refl, ap, sym, ◌∙◌, arith, length-append, subst, true, false}
+use Rattle.std.proofs.Common.{◌≡◌, ℕ, zero, suc, ◌+◌, ◌-◌, ◌<◌, ◌≤◌, List, [], ◌∷◌, length, get_or, refl, ap, ◌∙◌, arith, length-append, subst, true, false}
 use Rattle.std.specs.Prelude.{nat_lt}
 use Rattle.std.proofs.lemmas.List.{get_or_append_left, get_or-append_right}
 use Rattle.value_model.specs.declared.key.Key.{Key}
 use Rattle.page_tables.specs.declared.cell.Cell.{Cell}
-use Rattle.page_tables.specs.Pages.{page, paged, table, joined, AllBelow, starts}
+use Rattle.page_tables.specs.Pages.{page, paged, table, AllBelow, starts}
 
 pub length_starts : (ps : List (List (Key × Cell))) (at : ℕ) (ns : List ℕ) → length (starts at (paged ps ns)) ≡ length ns
 length_starts ps at [] = refl

@@ -1,4 +1,5 @@
 pub mod Edits
 pub mod Examples
+pub mod Listing
 pub mod Pages
 pub mod Rebuilt

@@ -54,6 +54,11 @@ abbrev pub numbers_from : ℕ → List (List (Key × Cell)) → List ℕ
 numbers_from n [] = []
 numbers_from n (p ∷ ps) = n ∷ numbers_from (n + 1) ps
 
+-- no page is empty
+abbrev pub AllSome : List (List (Key × Cell)) → Type 0
+AllSome [] = ⊤
+AllSome (p ∷ ps) = (1 ≤ length p) × AllSome ps
+
 -- the second list of pages begins with the first
 pub record IsGrown (ps qs : List (List (Key × Cell))) : Type 0 where
   pub longer : length ps ≤ length qs

@@ -1,5 +1,5 @@
 -- A table made from another one by edits, copy on write: a page without an edit is named again.
-use Rattle.std.specs.Prelude.{◌≡◌, ℕ, ◌+◌, ◌<◌, ◌*◌, ◌≤◌, List, [], ◌∷◌, ◌++◌, length, Bool, true, false, nat_lt, if◌then◌else◌, ⊤}
+use Rattle.std.specs.Prelude.{◌≡◌, ℕ, ◌+◌, ◌*◌, ◌≤◌, List, [], ◌∷◌, ◌++◌, length, Bool, true, false, nat_lt, if◌then◌else◌, ⊤}
 use Rattle.value_model.specs.declared.key.Key.{Key}
 use Rattle.page_tables.specs.declared.cell.Cell.{Cell}
 use Rattle.page_tables.specs.declared.row.Edit.{Edit}
@@ -12,8 +12,8 @@ abbrev pub olds : ℕ → List ℕ → List ℕ
 olds n [] = []
 olds n (m ∷ ms) = if nat_lt m n then m ∷ olds n ms else olds n ms
 
--- no page follows
-abbrev pub no_more : List ℕ → Bool
+-- nothing follows
+abbrev pub no_more : {A : Type 0} → List A → Bool
 no_more [] = true
 no_more (n ∷ ns) = false
 
@@ -28,7 +28,7 @@ others true p es = []
 others false p es = back (last_key p) es
 
 -- a page's number, if it has no edit
-abbrev pub kept : ℕ → List Edit → List ℕ
+abbrev pub kept : {A : Type 0} → ℕ → List A → List ℕ
 kept n [] = n ∷ []
 kept n (e ∷ es) = []
 
@@ -51,12 +51,16 @@ pub record IsRebuilt (ps : List (List (Key × Cell))) (base : List ℕ) (es : Li
   pub fit : length qs ≤ length ps + length (edited (pages.table ps base) es)
   pub below : AllBelow (length qs) ns
 
+-- rows were laid at the end of a table, in these pages named again or in new ones
+pub record IsLaid (ps : List (List (Key × Cell))) (ms : List ℕ) (qs : List (List (Key × Cell))) (ns : List ℕ) (rs : List (Key × Cell)) (ks : List ℕ) : Type 0 where
+  pub grown : IsGrown ps qs
+  pub names : pages.table qs ns ≡ pages.table ps ms ++ rs
+  pub below : AllBelow (length qs) ns
+  pub again : (b : ℕ) → b ≤ length ps → AllBelow b ks → olds b ns ≡ olds b ms ++ ks
+  pub fit : length qs ≤ length ps + length rs
+
 -- one page was named again, or its rows after its edits were added
 pub record IsDone (ps : List (List (Key × Cell))) (ms : List ℕ) (qs : List (List (Key × Cell))) (ns : List ℕ) (n : ℕ) (es : List Edit) : Type 0 where
   pub rows : IsPage (page ps n)
-  pub grown : IsGrown ps qs
-  pub names : pages.table qs ns ≡ pages.table ps ms ++ edited (page ps n) es
-  pub below : AllBelow (length qs) ns
+  pub laid : IsLaid ps ms qs ns (edited (page ps n) es) (kept n es)
   pub few : length qs ≤ length ps + 2 * length es
-  pub again : (b : ℕ) → b ≤ length ps → n < b → olds b ns ≡ olds b ms ++ kept n es
-  pub fit : length qs ≤ length ps + length (edited (page ps n) es)

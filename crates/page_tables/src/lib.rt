@@ -9,10 +9,12 @@ mod cell;
 mod edits;
 mod pages;
 mod places;
+mod puts;
 mod rebuild;
+mod relist;
 mod row;
 
 pub use cell::{Cell, NodeId};
 pub use pages::Pages;
 pub use places::last_at_most;
-pub use row::{Edit, Row, Rows};
+pub use row::{Edit, Listing, Put, Row, Rows};

@@ -1,5 +1,6 @@
 ghost use Rattle.std.specs.Prelude.{◌≡◌, ◌<◌, ◌+◌, ◌≤◌, ◌^◌, ◌++◌, [], ◌∷◌, length, get_or, take, IfOk, OnErr};
-ghost use Rattle.page_tables.specs.Pages.{IsPage, IsGrown, Pushed, in_pages, filled, numbers_from};
+ghost use Rattle.page_tables.specs.Pages.{IsPage, IsGrown, Pushed, AllBelow, page as page_of, in_pages, filled, numbers_from};
+ghost use Rattle.page_tables.specs.Rebuilt.{IsLaid};
 
 use crate::row::{Row, Rows};
 use std::alloc::{AllocError, Global};
@@ -63,6 +64,18 @@ impl Pages {
         ensures { self.new ≡ take len self.old }
     {
         self.pages.truncate(len as usize);
+    }
+
+    /// Names a page again.
+    pub(crate) fn name_again(&self, names: &mut Vec<u32>, number: u32) -> Result<(), AllocError>
+        requires number { number < length self.now }
+        requires names { AllBelow (length self.now) names.old.items }
+        ensures page { IsPage (page_of self.now number) }
+        ensures laid { IfOk result (λ _. IsLaid self.now names.old.items self.now names.new.items (page_of self.now number) (number ∷ [])) }
+    {
+        let _rows = self.page(number);
+        names.push(number)?;
+        Ok(())
     }
 
     /// Adds one page, and its number to the names.

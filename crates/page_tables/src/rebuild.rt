@@ -101,14 +101,12 @@ impl Pages {
     }
 
     /// Names a page again.
-    #[tactic(auto, using(crate::proofs::RebuildLaws::done_again))]
     fn again(&self, names: &mut Vec<u32>, number: u32) -> Result<(), AllocError>
         requires number { number < length self.now }
         requires names { AllBelow (length self.now) names.old.items }
         ensures { IfOk result (λ _. IsDone self.now names.old.items self.now names.new.items number []) }
     {
-        let _rows = self.page(number);
-        names.push(number)?;
+        self.name_again(names, number)?;
         Ok(())
     }
 

@@ -64,6 +64,26 @@ pub struct Edit {
     pub cell: Option<Cell>,
 }
 
+/// A change of a list: what stands at an index from then on.
+#[derive(Drop)]
+pub struct Put {
+    /// The index.
+    pub index: u64,
+    /// What stands there from then on.
+    pub cell: Cell,
+}
+
+/// Edits of a list: elements are replaced, then the end is cut off, then elements are added.
+#[derive(Drop)]
+pub struct Listing {
+    /// What is replaced; the indexes ascend strictly.
+    pub set: Vec<Put>,
+    /// How many elements are left before the added ones.
+    pub cut: u64,
+    /// What is added behind them.
+    pub push: Vec<Cell>,
+}
+
 /// The entries of a page.
 ///
 /// A contract sees them as a list.

@@ -1,6 +1,6 @@
 use Rattle.std.proofs.Common.{◌≡◌, ◌++◌, map}
 use Rattle.std.specs.Vec.Iter.{into_iter_items}
-use Rattle.node_store.specs.Nodes.{null_row}
+use Rattle.page_tables.specs.Listing.{null_row}
 use Rattle.node_store.proofs.entries.list_rows.Given as goal
 
 abbrev pub invariant-loop-cell : goal.invariant-loop-cell

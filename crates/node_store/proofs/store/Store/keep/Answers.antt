@@ -12,7 +12,7 @@ use Rattle.node_store.specs.Nodes.{CellsBelow, formed}
 use Rattle.node_store.specs.Paged.{Paged, states, IsLonger}
 use Rattle.node_store.proofs.Added.{small_tally}
 use Rattle.node_store.proofs.Grown.{store_of, used_states, many_states}
-use Rattle.node_store.proofs.Kept.{room, fitting, added, IsHeldFor}
+use Rattle.node_store.proofs.Kept.{room, fitting, placed_pushed, added, IsHeldFor}
 use Rattle.node_store.proofs.Shown.{length_sums, length_rows}
 use Rattle.node_store.proofs.store.Store.keep.Goals as goal
 
@@ -67,7 +67,7 @@ invariant_of-self-in-Ok c =
     let made = c.held_of.ensures in
     let nodes : gs ≡ hs ++ h ∷ [] = c.push_reserved.ensures.items ∙ ap (λ (xs : List Held). xs ++ h ∷ []) c.in_ok-reserve.ensures.items in
     let held : IsHeldFor ps (states (store_of ps hs)) c.args.kind rs c.args.measures c.self.inside.used c.add_rows.new.self c.in_ok-names.names.items h = record {
-      pushed = c.in_ok-names.ensures.ok;
+      placed = placed_pushed ps c.add_rows.new.self c.in_ok-names.names.items rs c.in_ok-names.ensures.ok;
       below = subst (λ (s : Paged). CellsBelow (states s) (map (λ r. r.1) rs)) (sym c.self.view_is) c.requires.below;
       next = subst (λ (s : Paged). IsNext (states s) (formed (states s) c.args.kind rs)) (sym c.self.view_is) c.requires.next;
       tallied = subst (λ (s : Paged). IsTallied (formed (states s) c.args.kind rs) c.args.measures) (sym c.self.view_is) c.requires.tallied;
@@ -114,7 +114,7 @@ returns-in-Ok-clause-states c =
     let made = c.held_of.ensures in
     let nodes : gs ≡ hs ++ h ∷ [] = c.push_reserved.ensures.items ∙ ap (λ (xs : List Held). xs ++ h ∷ []) c.in_ok-reserve.ensures.items in
     let held : IsHeldFor ps (states (store_of ps hs)) c.args.kind rs c.args.measures c.self.inside.used c.add_rows.new.self c.in_ok-names.names.items h = record {
-      pushed = c.in_ok-names.ensures.ok;
+      placed = placed_pushed ps c.add_rows.new.self c.in_ok-names.names.items rs c.in_ok-names.ensures.ok;
       below = subst (λ (s : Paged). CellsBelow (states s) (map (λ r. r.1) rs)) (sym c.self.view_is) c.requires.below;
       next = subst (λ (s : Paged). IsNext (states s) (formed (states s) c.args.kind rs)) (sym c.self.view_is) c.requires.next;
       tallied = subst (λ (s : Paged). IsTallied (formed (states s) c.args.kind rs) c.args.measures) (sym c.self.view_is) c.requires.tallied;
@@ -140,7 +140,7 @@ returns-in-Ok-clause-longer c =
     let made = c.held_of.ensures in
     let nodes : gs ≡ hs ++ h ∷ [] = c.push_reserved.ensures.items ∙ ap (λ (xs : List Held). xs ++ h ∷ []) c.in_ok-reserve.ensures.items in
     let held : IsHeldFor ps (states (store_of ps hs)) c.args.kind rs c.args.measures c.self.inside.used c.add_rows.new.self c.in_ok-names.names.items h = record {
-      pushed = c.in_ok-names.ensures.ok;
+      placed = placed_pushed ps c.add_rows.new.self c.in_ok-names.names.items rs c.in_ok-names.ensures.ok;
       below = subst (λ (s : Paged). CellsBelow (states s) (map (λ r. r.1) rs)) (sym c.self.view_is) c.requires.below;
       next = subst (λ (s : Paged). IsNext (states s) (formed (states s) c.args.kind rs)) (sym c.self.view_is) c.requires.next;
       tallied = subst (λ (s : Paged). IsTallied (formed (states s) c.args.kind rs) c.args.measures) (sym c.self.view_is) c.requires.tallied;

@@ -1,4 +1,4 @@
-use Rattle.std.proofs.Common.{◌∙◌, ◌≡◌, ap, take, List, ℕ}
+use Rattle.std.proofs.Common.{◌∙◌, ap, take, ℕ}
 use Rattle.page_tables.proofs.PageLaws.{cut_back}
 use Rattle.page_tables.proofs.pages.Pages.add_rows.Goals as goal
 

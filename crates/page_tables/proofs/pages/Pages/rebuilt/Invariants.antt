@@ -1,4 +1,4 @@
-use Rattle.std.proofs.Common.{◌≡◌, ◌≤◌, drop, length}
+use Rattle.std.proofs.Common.{◌≤◌, drop, length}
 use Rattle.page_tables.proofs.RebuildLaws.{IsOnWay}
 use Rattle.page_tables.proofs.pages.Pages.rebuilt.Given as goal
 

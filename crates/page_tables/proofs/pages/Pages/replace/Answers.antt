@@ -1,9 +1,8 @@
-use Rattle.std.proofs.Common.{◌≡◌, ◌∙◌, ◌+◌, ◌≤◌, [], List, length, ap, arith, subst, sym}
+use Rattle.std.proofs.Common.{◌∙◌, [], List, length, ap, arith, subst}
 use Rattle.value_model.specs.declared.key.Key.{Key}
 use Rattle.page_tables.specs.declared.cell.Cell.{Cell}
-use Rattle.page_tables.specs.Pages.{IsPage, Pushed, page}
+use Rattle.page_tables.specs.Pages.{IsPage, Pushed}
 use Rattle.page_tables.specs.Edits.{edited}
-use Rattle.page_tables.specs.Rebuilt.{IsDone}
 use Rattle.page_tables.proofs.RebuildLaws.{done_pushed}
 use Rattle.page_tables.proofs.pages.Pages.replace.Goals as goal
 

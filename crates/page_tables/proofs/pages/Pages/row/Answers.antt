@@ -1,9 +1,9 @@
-use Rattle.std.proofs.Common.{◌≡◌, ◌∙◌, ◌≤◌, ◌<◌, ◌-◌, ◌*◌, ◌+◌, ℕ, [], List, length, get_or, ap, sym, arith, subst}
+use Rattle.std.proofs.Common.{◌≡◌, ◌∙◌, ◌≤◌, ◌<◌, ◌-◌, ◌+◌, ℕ, [], List, length, get_or, ap, sym, arith, subst}
 use Rattle.std.proofs.lemmas.List.{get_or_default}
 use Rattle.value_model.specs.declared.key.Key.{Key}
 use Rattle.page_tables.specs.declared.cell.Cell.{Cell}
 use Rattle.page_tables.specs.Pages.{page}
-use Rattle.page_tables.proofs.PlaceLaws.{found_in, some_start, first_start, name_below, length_starts}
+use Rattle.page_tables.proofs.PlaceLaws.{found_in, some_start, first_start, name_below}
 use Rattle.page_tables.proofs.pages.Pages.row.Goals as goal
 
 pub last_at_most-j-requires-clause-some : goal.last_at_most-j-requires-clause-some

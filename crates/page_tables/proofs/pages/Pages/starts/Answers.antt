@@ -1,4 +1,4 @@
-use Rattle.std.proofs.Common.{◌≡◌, ◌≤◌, ◌<◌, ◌+◌, length, arith}
+use Rattle.std.proofs.Common.{arith}
 use Rattle.page_tables.proofs.pages.Pages.starts.Goals as goal
 
 pub overflow_cast-total : goal.overflow_cast-total

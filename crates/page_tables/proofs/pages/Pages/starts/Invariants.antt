@@ -1,4 +1,4 @@
-use Rattle.std.proofs.Common.{◌≡◌, ◌≤◌, ◌+◌, ◌++◌, drop, length}
+use Rattle.std.proofs.Common.{◌≡◌, ◌+◌, ◌++◌, drop, length}
 use Rattle.page_tables.specs.Pages.{paged, table, starts, AllBelow}
 use Rattle.page_tables.proofs.pages.Pages.starts.Given as goal
 

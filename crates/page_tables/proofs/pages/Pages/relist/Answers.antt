@@ -1,0 +1,6 @@
+use Rattle.std.proofs.Common.{◌∙◌, ap, take, ℕ}
+use Rattle.page_tables.proofs.PageLaws.{cut_back}
+use Rattle.page_tables.proofs.pages.Pages.relist.Goals as goal
+
+pub returns-in-Err-clause-stands : goal.returns-in-Err-clause-stands
+returns-in-Err-clause-stands c = c.cut_to.ensures ∙ ap (λ (n : ℕ). take n c.relisted.new.self) c.len-len.ensures ∙ cut_back c.args.self.now c.relisted.new.self c.in-Err.ensures.stands
