@@ -40,7 +40,7 @@ primitive_stored h [] p = tt
 primitive_stored h (e ∷ t) p = (one_stored h e.1 p.0, primitive_stored h t p.1)
 
 -- ---- the objects are added
-get_append : (cs ds : List Content) (i : ℕ) → slice_get (cs ++ ds) i ≡ (if nat_lt i (length cs) then slice_get cs i else slice_get ds (i - length cs))
+pub get_append : (cs ds : List Content) (i : ℕ) → slice_get (cs ++ ds) i ≡ (if nat_lt i (length cs) then slice_get cs i else slice_get ds (i - length cs))
 get_append [] ds i = let z : i - 0 ≡ i = omega arith in let no : nat_lt i 0 ≡ false = grind arith in rw (no, z) refl
 get_append (c ∷ cs) ds zero = let yes : nat_lt 0 (suc (length cs)) ≡ true = grind arith in rw yes refl
 get_append (c ∷ cs) ds (suc i) =

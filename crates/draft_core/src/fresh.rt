@@ -1,6 +1,7 @@
 //! Calls that make objects.
 ghost use Rattle.node_store.specs.Paged.{states};
 ghost use Rattle.std.specs.Prelude.{◌≡◌, ◌+◌, ◌≤◌, [], IfOk, List, None};
+ghost use Rattle.numbered.specs.Loading.{places};
 ghost use Rattle.numbered.specs.Tree.{Tree};
 ghost use Rattle.value_model.specs.Limits.{value_limit};
 ghost use Rattle.value_model.specs.declared.kind.Kind.TheVariants as kind;
@@ -10,6 +11,7 @@ ghost use Rattle.run_heap.specs.Operations as spec;
 ghost use Rattle.run_heap.specs.Operations.{read};
 ghost use Rattle.run_heap.specs.Sound.{Fits, Grows, Owned};
 ghost use Rattle.draft_core.specs.Fresh.{IsLiteral};
+ghost use Rattle.draft_core.specs.Left.{GoesOn};
 ghost use Rattle.draft_core.specs.Seen.{heap, Stands};
 ghost use Rattle.draft_core.specs.Writes.{slots};
 
@@ -24,10 +26,8 @@ impl Scope {
     /// A fresh empty literal.
     pub fn new_of(&mut self, alloc: Global, kind: Kind) -> Result<Rv, AllocError>
         ensures done { (ts : List Tree) → Stands ts self.old → Makes result (heap ts self.old) (heap ts self.new) (spec.new_of kind (heap ts self.old)) (next_object (heap ts self.old)) }
-        ensures stands { (ts : List Tree) → Stands ts self.old → Stands ts self.new }
-        ensures grows { (ts : List Tree) → Stands ts self.old → Grows (heap ts self.old) (heap ts self.new) }
+        ensures goes { (ts : List Tree) → Stands ts self.old → GoesOn ts self.old self.new 1 }
         ensures fits { (ts : List Tree) → Stands ts self.old → IfOk result (λ v. Fits (heap ts self.new) v) }
-        ensures tables { slots self.new ≤ slots self.old + 1 }
     {
         self.make(Content {
             kind,
@@ -40,10 +40,8 @@ impl Scope {
     /// A fresh empty object.
     pub fn new_object(&mut self, alloc: Global) -> Result<Rv, AllocError>
         ensures done { (ts : List Tree) → Stands ts self.old → Makes result (heap ts self.old) (heap ts self.new) (spec.new_of kind.Obj (heap ts self.old)) (next_object (heap ts self.old)) }
-        ensures stands { (ts : List Tree) → Stands ts self.old → Stands ts self.new }
-        ensures grows { (ts : List Tree) → Stands ts self.old → Grows (heap ts self.old) (heap ts self.new) }
+        ensures goes { (ts : List Tree) → Stands ts self.old → GoesOn ts self.old self.new 1 }
         ensures fits { (ts : List Tree) → Stands ts self.old → IfOk result (λ v. Fits (heap ts self.new) v) }
-        ensures tables { slots self.new ≤ slots self.old + 1 }
     {
         self.new_of(alloc, Kind::Obj)
     }
@@ -51,10 +49,8 @@ impl Scope {
     /// A fresh empty list.
     pub fn new_list(&mut self, alloc: Global) -> Result<Rv, AllocError>
         ensures done { (ts : List Tree) → Stands ts self.old → Makes result (heap ts self.old) (heap ts self.new) (spec.new_of kind.List (heap ts self.old)) (next_object (heap ts self.old)) }
-        ensures stands { (ts : List Tree) → Stands ts self.old → Stands ts self.new }
-        ensures grows { (ts : List Tree) → Stands ts self.old → Grows (heap ts self.old) (heap ts self.new) }
+        ensures goes { (ts : List Tree) → Stands ts self.old → GoesOn ts self.old self.new 1 }
         ensures fits { (ts : List Tree) → Stands ts self.old → IfOk result (λ v. Fits (heap ts self.new) v) }
-        ensures tables { slots self.new ≤ slots self.old + 1 }
     {
         self.new_of(alloc, Kind::List)
     }
@@ -65,10 +61,8 @@ impl Scope {
         requires stands { Stands (states store.now) self.old }
         requires owned { Owned (heap (states store.now) self.old) of.now }
         ensures done { Does result (heap (states store.now) self.old) (heap (states store.now) self.new) (spec.keys (heap (states store.now) self.old) of.now) }
-        ensures stands { Stands (states store.now) self.new }
-        ensures grows { Grows (heap (states store.now) self.old) (heap (states store.now) self.new) }
+        ensures goes { GoesOn (states store.now) self.old self.new 1 }
         ensures fits { IfOk result (λ v. Fits (heap (states store.now) self.new) v) }
-        ensures tables { slots self.new ≤ slots self.old + 1 }
     {
         let table = self.key_list(alloc, store, of)?;
         let list = Content {
@@ -102,10 +96,8 @@ impl Scope {
     fn make(&mut self, content: Content) -> Result<Rv, AllocError>
         requires { IsLiteral content }
         ensures done { (ts : List Tree) → Stands ts self.old → Makes result (heap ts self.old) (heap ts self.new) (with_object content (heap ts self.old)) (next_object (heap ts self.old)) }
-        ensures stands { (ts : List Tree) → Stands ts self.old → Stands ts self.new }
-        ensures grows { (ts : List Tree) → Stands ts self.old → Grows (heap ts self.old) (heap ts self.new) }
+        ensures goes { (ts : List Tree) → Stands ts self.old → GoesOn ts self.old self.new 1 }
         ensures fits { (ts : List Tree) → Stands ts self.old → IfOk result (λ v. Fits (heap ts self.new) v) }
-        ensures tables { slots self.new ≤ slots self.old + 1 }
     {
         let slot = self.drafts as u64 + self.later.len() as u64;
         self.later.push(content)?;
@@ -119,8 +111,7 @@ impl Scope {
     pub fn plain_of(&mut self, alloc: Global, v: &Val) -> Result<Rv, AllocError>
         requires { value_limit v.now ≡ None }
         ensures done { (ts : List Tree) → Stands ts self.old → Makes result (heap ts self.old) (heap ts self.new) (spec.with_plain v.now (heap ts self.old)) (spec.plain_value (heap ts self.old) v.now) }
-        ensures stands { (ts : List Tree) → Stands ts self.old → Stands ts self.new }
-        ensures grows { (ts : List Tree) → Stands ts self.old → Grows (heap ts self.old) (heap ts self.new) }
+        ensures goes { (ts : List Tree) → Stands ts self.old → GoesOn ts self.old self.new (places v.now) }
         ensures fits { (ts : List Tree) → Stands ts self.old → IfOk result (λ v. Fits (heap ts self.new) v) }
     {
         let first = self.drafts as u64 + self.later.len() as u64;

@@ -12,6 +12,7 @@ mod plans;
 mod reads;
 mod scope;
 mod tables;
+mod watch;
 mod writes;
 
 pub use draft_slots::Peek;

@@ -212,6 +212,24 @@ keeps_refl (Some c) = (refl, refl, λ w. w)
 pub grows_refl : (h : Heap) → Grows h h
 grows_refl h = record { scope = refl; states = refl; root = refl; more = omega arith; keeps = λ n. keeps_refl (h.object n) }
 
+keeps_on : (a b c : Option Content) → Keeps a b → Keeps b c → Keeps a c
+keeps_on None b c p q = tt
+keeps_on (Some a) None c p q = absurd p
+keeps_on (Some a) (Some b) None p q = absurd q
+keeps_on (Some a) (Some b) (Some c) p q = (q.0 ∙ p.0, q.1 ∙ p.1, λ w. q.2 (p.2 w))
+
+pub grows_on : (f g h : Heap) → Grows f g → Grows g h → Grows f h
+grows_on f g h p q =
+    let few = p.more in
+    let more = q.more in
+    record {
+      scope = q.scope ∙ p.scope;
+      states = q.states ∙ p.states;
+      root = q.root ∙ p.root;
+      more = omega (arith, few, more);
+      keeps = λ n. keeps_on (f.object n) (g.object n) (h.object n) (p.keeps n) (q.keeps n);
+    }
+
 pub grows_update : (h : Heap) (n : ℕ) (t : Rows) (c : Content) → h.object n ≡ Some c → Grows h (update n (rewritten t c) h)
 grows_update h n t c o = record {
   scope = refl;

@@ -1,12 +1,12 @@
 use Rattle.node_store.specs.Paged.{states}
-use Rattle.std.proofs.Common.{◌∙◌, refl, sym, ap, subst}
+use Rattle.std.proofs.Common.{◌∙◌, refl, ap, arith}
 use Rattle.std.specs.Ordering.{nat_cmp}
 use Rattle.std.specs.BTreeMap.{is_at}
 use Rattle.std.specs.Map.{lookup}
-use Rattle.run_heap.specs.Sound.{IsSound}
 use Rattle.draft_core.specs.Changed.{heap_opened, heap_unchanged}
-use Rattle.draft_core.proofs.Changed.{stands_as, apart, none_there, later_own}
+use Rattle.draft_core.proofs.Changed.{apart, none_there, later_own}
 use Rattle.draft_core.proofs.Kept.{node_fits, node_copied}
+use Rattle.draft_core.proofs.Watch.{goes_same, own_beside_draft, watched_written}
 use Rattle.draft_core.proofs.scope.Scope.open.Goals as goal
 
 pub returns-then-name-self-clause-own : goal.returns-then-name-self-clause-own
@@ -18,8 +18,15 @@ node_content-requires-clause-fit c = node_fits (states c.args.store.now) c.args.
 pub returns-in_err-insert-clause-heap : goal.returns-in_err-insert-clause-heap
 returns-in_err-insert-clause-heap c = heap_unchanged (states c.args.store.now) c.args.self.now _ (record { number = refl; root = refl; len = refl; drafts = refl }) refl c.args.name (λ q other. ap (lookup (is_at (nat_cmp q))) c.in_err-insert.ensures.err) (ap (lookup (is_at (nat_cmp c.args.name))) c.in_err-insert.ensures.err)
 
-pub returns-in_err-insert-clause-stands : goal.returns-in_err-insert-clause-stands
-returns-in_err-insert-clause-stands c = stands_as (states c.args.store.now) c.args.self.now _ c.requires.stands (record { number = refl; root = refl; len = refl; drafts = refl }) (subst IsSound (sym (returns-in_err-insert-clause-heap c)) c.requires.stands.sound)
+pub returns-in_err-insert-clause-goes : goal.returns-in_err-insert-clause-goes
+returns-in_err-insert-clause-goes c =
+    let ts = states c.args.store.now in
+    let s = c.args.self.now in
+    let others = λ q other. ap (lookup (is_at (nat_cmp q))) c.in_err-insert.ensures.err in
+    let tables = c.in_err-insert.ensures.len in
+    goes_same ts s _ 1 c.requires.stands (record { number = refl; root = refl; len = refl; drafts = refl }) (returns-in_err-insert-clause-heap c)
+    (watched_written ts s _ (record { number = refl; root = refl; len = refl; drafts = refl }) (record { seen = refl; noted = refl }) c.args.name c.requires.noted (own_beside_draft s _ c.args.name (record { number = refl; root = refl; len = refl; drafts = refl }) refl others))
+    (omega (arith, tables))
 
 pub returns-clause-heap : goal.returns-clause-heap
 returns-clause-heap c =
@@ -30,5 +37,12 @@ returns-clause-heap c =
     (none_there _ c.if-contains_key.ensures)
     (node_copied (states c.args.store.now) c.args.self.now c.args.name c.locate-id.result c.given.result c.requires.stands c.locate-id.ensures.place c.given.ensures ∙ c.in_ok-content.ensures)
 
-pub returns-clause-stands : goal.returns-clause-stands
-returns-clause-stands c = stands_as (states c.args.store.now) c.args.self.now _ c.requires.stands (record { number = refl; root = refl; len = refl; drafts = refl }) (subst IsSound (sym (returns-clause-heap c)) c.requires.stands.sound)
+pub returns-clause-goes : goal.returns-clause-goes
+returns-clause-goes c =
+    let ts = states c.args.store.now in
+    let s = c.args.self.now in
+    let updates = c.in_ok-insert.ensures.updates in
+    let tables = c.in_ok-insert.ensures.len in
+    goes_same ts s _ 1 c.requires.stands (record { number = refl; root = refl; len = refl; drafts = refl }) (returns-clause-heap c)
+    (watched_written ts s _ (record { number = refl; root = refl; len = refl; drafts = refl }) (record { seen = refl; noted = refl }) c.args.name c.requires.noted (own_beside_draft s _ c.args.name (record { number = refl; root = refl; len = refl; drafts = refl }) refl (λ q other. updates.2 q (apart c.args.name q other))))
+    (omega (arith, tables))
