@@ -69,7 +69,7 @@ apart n q other =
       | false ↦ rw no refl
     ]
 
-pub none_there : (o : Option Content) → false ≡ is_some o → o ≡ None
+pub none_there : {A : Type 0} (o : Option A) → false ≡ is_some o → o ≡ None
 none_there None h = refl
 none_there (Some c) h = absurd (cc)
 

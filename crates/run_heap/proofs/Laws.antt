@@ -303,11 +303,14 @@ fresh_fits c h = (refl, omega arith)
 pub made_fits : (c : Content) (g h : Heap) (v : Rv) → h ≡ with_object c g → v ≡ next_object g → Fits h v
 made_fits c g h v p q = rw (p, q) (fresh_fits c g)
 
+pub literal_count : (h : Heap) (v : Plain) → length (literals h v) ≡ places v
+literal_count h v = length-map (post_order (numbered h.next v)) (literal h.scope) ∙ length_post (numbered h.next v) ∙ containers_numbered h.next v
+
 pub plain_fits : (h : Heap) (v : Plain) → Fits (with_plain v h) (value_of h v)
 plain_fits h (plain_value.prim k) = tt
 plain_fits h (plain_value.node of es) =
     let v = plain_value.node of es in
-    let count : length (literals h v) ≡ places v = length-map (post_order (numbered h.next v)) (literal h.scope) ∙ length_post (numbered h.next v) ∙ containers_numbered h.next v in
+    let count = literal_count h v in
     (refl, omega (arith, count))
 
 -- ---- what a value of a sound heap shows may be an object's content
