@@ -10,7 +10,8 @@ use Rattle.numbered.specs.Store.{IsNumber, IsStore, tree_at}
 use Rattle.numbered.specs.Tree.{Tree, containers, place}
 use Rattle.run_heap.specs.declared.content.Content.{Content}
 use Rattle.run_heap.specs.Heap.{Heap, copied, opened, with_objects}
-use Rattle.run_heap.proofs.Laws.{AllContents, get_some, get_none, grows_on, grows_refl, grows_objects, objects_sound, opened_sound}
+use Rattle.run_heap.specs.Laws.{AllContents}
+use Rattle.run_heap.proofs.Laws.{get_append, get_some, get_none, grows_on, grows_refl, grows_objects, objects_sound, opened_sound}
 use Rattle.run_heap.specs.Sound.{IsSound, Grows}
 use Rattle.draft_core.specs.declared.scope.Scope.{Scope}
 use Rattle.draft_core.specs.Changed.{heap_is, eq_of, ne_of}
@@ -19,7 +20,7 @@ use Rattle.draft_core.specs.Seen.{heap, watched, seen_heap, kept_heap, kept_obje
 use Rattle.draft_core.specs.Tables.{Beside, IsNoted, SameNotes, noted_or, own_content, own_then}
 use Rattle.draft_core.specs.Writes.{slots}
 use Rattle.draft_core.proofs.Changed.{stands_as}
-use Rattle.draft_core.proofs.FreshLaws.{get_append, heap_made}
+use Rattle.draft_core.proofs.FreshLaws.{heap_made}
 use Rattle.draft_core.proofs.Kept.{empty_object, heap_begun, next_is, take_whole}
 
 pub watched_is : (ts : List Tree) (s : Scope) → seen_heap s.number (take s.len ts) s.root s.seen (own_then s) ≡ watched ts s

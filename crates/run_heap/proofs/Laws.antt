@@ -1,5 +1,5 @@
 -- What every heap of a run keeps: laws.
-use Rattle.std.proofs.Common.{◌≡◌, ◌≢◌, ℕ, zero, suc, ◌+◌, ◌-◌, ◌<◌, ◌≤◌, List, [], ◌∷◌, length, refl, ap, sym, ◌∙◌, subst, arith, true, false, not, Less, Equal, Greater}
+use Rattle.std.proofs.Common.{◌≡◌, ◌≢◌, ℕ, zero, suc, ◌+◌, ◌-◌, ◌<◌, ◌≤◌, List, [], ◌∷◌, ◌++◌, length, refl, ap, sym, ◌∙◌, subst, arith, true, false, not, Less, Equal, Greater}
 use Rattle.std.specs.Prelude.{◌||◌, ◌==◌, nat_lt, if◌then◌else◌, Option, Some, None, slice_get, cond, pos, negsuc, Result, Ok, Err}
 use Rattle.std.specs.FinMap.Entries.{find}
 use Rattle.std.specs.Ordering.{is_eq, eq_by_cmp}
@@ -261,6 +261,14 @@ pub get_none : (cs : List Content) (i : ℕ) → length cs ≤ i → slice_get c
 get_none [] i l = refl
 get_none (c ∷ cs) zero l = absurd (omega arith)
 get_none (c ∷ cs) (suc i) l = get_none cs i (omega arith)
+
+pub get_append : (cs ds : List Content) (i : ℕ) → slice_get (cs ++ ds) i ≡ (if nat_lt i (length cs) then slice_get cs i else slice_get ds (i - length cs))
+get_append [] ds i = let z : i - 0 ≡ i = omega arith in let no : nat_lt i 0 ≡ false = grind arith in rw (no, z) refl
+get_append (c ∷ cs) ds zero = let yes : nat_lt 0 (suc (length cs)) ≡ true = grind arith in rw yes refl
+get_append (c ∷ cs) ds (suc i) =
+    let same : nat_lt (suc i) (suc (length cs)) ≡ nat_lt i (length cs) = grind arith in
+    let less : suc i - suc (length cs) ≡ i - length cs = omega arith in
+    rw (same, less) (get_append cs ds i)
 
 pub objects_on : (h : Heap) (cs : List Content) → Onwards h (with_objects cs h)
 objects_on h cs = record { scope = refl; states = refl; more = omega arith }
