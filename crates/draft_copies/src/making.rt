@@ -1,7 +1,7 @@
 ghost use Rattle.node_store.specs.Paged.{states};
-ghost use Rattle.std.specs.Prelude.{◌≡◌, ◌+◌, ◌<◌, ◌≤◌, ◌^◌, ◌++◌, ◌∷◌, [], IfOk, length};
+ghost use Rattle.std.specs.Prelude.{◌≡◌, ◌≤◌, ◌^◌, IfOk, length, take};
 ghost use Rattle.numbered.specs.Store.{IsNumber, IsStore, tree_at};
-ghost use Rattle.numbered.specs.Tree.{containers, containers_in, node as container};
+ghost use Rattle.numbered.specs.Tree.{node as container};
 ghost use Rattle.run_heap.specs.Copies.{MayCopy, MayCopyAll, unfolded, unfolded_in};
 ghost use Rattle.draft_copies.specs.Made.{AreCopied, IsCopied};
 ghost use Rattle.draft_copies.specs.Seen.{entries_of};
@@ -11,9 +11,10 @@ use draft_slots::node_content;
 use node_store::{Kind, NodeId, Store};
 use run_heap::{Content, Given, ObjRef, Rv, Table};
 use std::alloc::{AllocError, Global};
+use value_model::Key;
 
-/// Adds the objects of the tree's containers, and answers what stands for it. The objects of a scope's number have the names
-/// from `first` on, those in `out` before.
+/// Adds the objects of the tree's containers behind those in `out`, whose first one has the name `first`, and answers what stands
+/// for the tree. After want of memory those that were there before are there still, at their places.
 #[cycle(copies)]
 pub fn copies(
     alloc: Global,
@@ -25,8 +26,9 @@ pub fn copies(
 ) -> Result<Rv, AllocError>
     requires store { IsStore (states store.now) }
     requires tree { MayCopy (states store.now) tree.now }
-    requires room { first + length out.old.items + containers (unfolded (states store.now) tree.now) < 2 ^ 64 }
-    ensures { IfOk result (λ w. IsCopied scope first (unfolded (states store.now) tree.now) out.old.items out.new.items w) }
+    requires first { first ≤ 2 ^ 20 }
+    ensures copied { IfOk result (λ w. IsCopied scope first (unfolded (states store.now) tree.now) out.old.items out.new.items w) }
+    ensures kept { take (length out.old.items) out.new.items ≡ out.old.items }
 {
     match &tree.node {
         CopyNode::Prim(key) => Ok(Rv::Prim(key.copy(alloc)?)),
@@ -50,8 +52,9 @@ fn copy_made(
 ) -> Result<Rv, AllocError>
     requires store { IsStore (states store.now) }
     requires entries { MayCopyAll (states store.now) (entries_of entries.now.items) }
-    requires room { first + length out.old.items + (1 + containers_in (unfolded_in (states store.now) (entries_of entries.now.items))) < 2 ^ 64 }
-    ensures { IfOk result (λ w. IsCopied scope first (container 0 kind (unfolded_in (states store.now) (entries_of entries.now.items))) out.old.items out.new.items w) }
+    requires first { first ≤ 2 ^ 20 }
+    ensures copied { IfOk result (λ w. IsCopied scope first (container 0 kind (unfolded_in (states store.now) (entries_of entries.now.items))) out.old.items out.new.items w) }
+    ensures kept { take (length out.old.items) out.new.items ≡ out.old.items }
 {
     let at = out.len();
     out.push(Content {
@@ -76,11 +79,12 @@ fn copy_entries(
     first: u64,
     entries: &Vec<CopyEntry>,
     out: &mut Vec<Content>,
-) -> Result<Vec<(value_model::Key, Rv)>, AllocError>
+) -> Result<Vec<(Key, Rv)>, AllocError>
     requires store { IsStore (states store.now) }
     requires entries { MayCopyAll (states store.now) (entries_of entries.now.items) }
-    requires room { first + length out.old.items + containers_in (unfolded_in (states store.now) (entries_of entries.now.items)) < 2 ^ 64 }
-    ensures { IfOk result (λ t. AreCopied scope first (unfolded_in (states store.now) (entries_of entries.now.items)) out.old.items out.new.items t.items) }
+    requires first { first ≤ 2 ^ 20 }
+    ensures copied { IfOk result (λ t. AreCopied scope first (unfolded_in (states store.now) (entries_of entries.now.items)) out.old.items out.new.items t.items) }
+    ensures kept { take (length out.old.items) out.new.items ≡ out.old.items }
 {
     let mut table = Vec::new(alloc);
     for e in entries {
@@ -101,8 +105,9 @@ fn copy_whole(
 ) -> Result<Rv, AllocError>
     requires store { IsStore (states store.now) }
     requires number { IsNumber (states store.now) id }
-    requires room { first + length out.old.items + containers (tree_at (states store.now) id) < 2 ^ 64 }
-    ensures { IfOk result (λ w. IsCopied scope first (tree_at (states store.now) id) out.old.items out.new.items w) }
+    requires first { first ≤ 2 ^ 20 }
+    ensures copied { IfOk result (λ w. IsCopied scope first (tree_at (states store.now) id) out.old.items out.new.items w) }
+    ensures kept { take (length out.old.items) out.new.items ≡ out.old.items }
 {
     let slot = first + out.len() as u64;
     for n in 0..store.containers(id) {

@@ -2,10 +2,11 @@
 ghost use Rattle.node_store.specs.Paged.{states};
 ghost use Rattle.std.specs.Prelude.{◌≡◌, ◌+◌, ◌≤◌, [], IfOk, List, None};
 ghost use Rattle.numbered.specs.Loading.{places};
-ghost use Rattle.numbered.specs.Tree.{Tree};
+ghost use Rattle.numbered.specs.Tree.{Tree, containers};
 ghost use Rattle.value_model.specs.Limits.{value_limit};
 ghost use Rattle.value_model.specs.declared.kind.Kind.TheVariants as kind;
 ghost use Rattle.run_heap.specs.Answers.{Answers, Does, Makes};
+ghost use Rattle.run_heap.specs.Copies.{MayCopy, copy_value, unfolded, with_copy};
 ghost use Rattle.run_heap.specs.Heap.{next_object, with_object};
 ghost use Rattle.run_heap.specs.Operations as spec;
 ghost use Rattle.run_heap.specs.Operations.{read};
@@ -16,6 +17,7 @@ ghost use Rattle.draft_core.specs.Seen.{heap, Stands};
 ghost use Rattle.draft_core.specs.Writes.{slots};
 
 use crate::scope::Scope;
+use draft_copies::{CopyTree, copies};
 use draft_literals::literals;
 use node_store::{Kind, Store};
 use run_heap::{Content, DraftFault, ObjRef, Rv, Table};
@@ -105,6 +107,33 @@ impl Scope {
             scope: self.number,
             slot,
         }))
+    }
+
+    /// The next copy: the objects of a tree's containers, with the next names in pre-order. The objects of a whole state have the
+    /// numbers of its containers as their sources, the others none. After want of memory all is as before.
+    pub fn copy(&mut self, alloc: Global, store: &Store, tree: &CopyTree) -> Result<Rv, AllocError>
+        requires stands { Stands (states store.now) self.old }
+        requires tree { MayCopy (heap (states store.now) self.old).states tree.now }
+        ensures done { Makes result (heap (states store.now) self.old) (heap (states store.now) self.new) (with_copy tree.now (heap (states store.now) self.old)) (copy_value (heap (states store.now) self.old) tree.now) }
+        ensures goes { GoesOn (states store.now) self.old self.new (containers (unfolded (heap (states store.now) self.old).states tree.now)) }
+        ensures fits { IfOk result (λ v. Fits (heap (states store.now) self.new) v) }
+    {
+        let len = self.later.len();
+        let copied = copies(
+            alloc,
+            store,
+            self.number,
+            self.drafts as u64,
+            tree,
+            &mut self.later,
+        );
+        match copied {
+            Ok(value) => Ok(value),
+            Err(e) => {
+                self.later.truncate(len);
+                Err(e)
+            }
+        }
     }
 
     /// Fresh literals of a plain value: its containers get the next names in post-order. After want of memory all is as before.
