@@ -1,7 +1,7 @@
 -- The next copy: objects made from a tree, one for each container place, with the next names in pre-order, as the deep copy of a
 -- state has them. In the tree a container with a number stands for the whole state of that number, and one with the number 0 for
 -- an object that has no source.
-use Rattle.std.specs.Prelude.{◌×◌, ℕ, zero, suc, ◌+◌, List, [], ◌∷◌, ◌++◌, Option, Some, None, false, IsTrue, ⊤}
+use Rattle.std.specs.Prelude.{ℕ, zero, suc, ◌+◌, List, [], ◌∷◌, ◌++◌, Option, Some, None, false, IsTrue, ⊤}
 use Rattle.value_model.specs.declared.key.Key.{Key}
 use Rattle.value_model.specs.declared.kind.Kind.{Kind}
 use Rattle.numbered.specs.Store.{IsNumber, tree_at}
