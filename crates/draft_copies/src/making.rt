@@ -32,7 +32,10 @@ pub fn copies(
 {
     match &tree.node {
         CopyNode::Prim(key) => Ok(Rv::Prim(key.copy(alloc)?)),
-        CopyNode::Whole(id) => copy_whole(alloc, store, scope, first, *id, out),
+        CopyNode::Whole(id) => {
+            let _from_one = id.get();
+            copy_whole(alloc, store, scope, first, *id, out)
+        }
         CopyNode::Made(kind, entries) => {
             copy_made(alloc, store, scope, first, *kind, entries, out)
         }
