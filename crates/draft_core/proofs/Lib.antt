@@ -1,4 +1,5 @@
 pub mod Changed
+pub mod Copying
 pub mod Ended
 pub mod FreshLaws
 pub mod Keeping
