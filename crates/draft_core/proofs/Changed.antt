@@ -30,14 +30,14 @@ heap_same ts s t b touched later =
 
 -- ---- what holds of scope and store
 pub stands_as : (ts : List Tree) (s t : Scope) → Stands ts s → Beside s t → IsSound (heap ts t) → Grows (heap ts s) (heap ts t) → watched ts t ≡ watched ts s → Stands ts t
-stands_as ts s t st b sound grows then = record {
+stands_as ts s t st b sound grows past = record {
   store = st.store;
   long = rw b.len st.long;
   root = rw (b.len, b.root) st.root;
   drafts = rw (b.drafts, b.len, b.root) st.drafts;
   sound = sound;
-  before = subst IsSound (sym then) st.before;
-  since = subst (λ (h : Heap). Grows h (heap ts t)) (sym then) (grows_on (watched ts s) (heap ts s) (heap ts t) st.since grows);
+  before = subst IsSound (sym past) st.before;
+  since = subst (λ (h : Heap). Grows h (heap ts t)) (sym past) (grows_on (watched ts s) (heap ts s) (heap ts t) st.since grows);
 }
 
 pub on_err : {X E : Type 0} (r : Result X E) (P Q : Type 0) → OnErr r P → (P → Q) → OnErr r Q

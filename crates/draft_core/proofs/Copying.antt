@@ -14,10 +14,10 @@ use Rattle.draft_core.specs.Seen.{heap, Stands}
 use Rattle.draft_core.specs.Tables.{Beside, SameNotes}
 use Rattle.draft_core.proofs.FreshLaws.{heap_made}
 use Rattle.draft_core.proofs.Kept.{next_is, number_more, same_tree, scope_is, states_are}
-use Rattle.draft_core.proofs.Watch.{goes_made}
+use Rattle.draft_core.proofs.Watched.{goes_made}
 
 -- ---- the store that has grown
-abbrev mutual
+mutual
   pub may_more : (ts : List Tree) (n : ℕ) (t : Tree) → MayCopy (take n ts) t → MayCopy ts t
   may_more ts n (prim k) m = tt
   may_more ts n (node zero of es) m = (m.0, m.1, all_more ts n es m.2)
@@ -27,7 +27,7 @@ abbrev mutual
   all_more ts n none m = tt
   all_more ts n (branch k v es) m = (may_more ts n v m.0, all_more ts n es m.1)
 
-abbrev mutual
+mutual
   pub unfolded_more : (ts : List Tree) (n : ℕ) (t : Tree) → MayCopy (take n ts) t → unfolded ts t ≡ unfolded (take n ts) t
   unfolded_more ts n (prim k) m = refl
   unfolded_more ts n (node zero of es) m = ap (λ (x : Branches). node zero of x) (branches_more ts n es m.2)
@@ -65,3 +65,7 @@ module _ (ts : List Tree) (s t : Scope) (tree : Tree) (w : Rv) (st : Stands ts s
       let h = heap ts s in
       let cs = copies h.scope h.next (unfolded h.states tree) in
       subst (λ (n : ℕ). GoesOn ts s t n) (length_copies h.scope h.next (unfolded h.states tree)) (goes_made ts s t cs st b notes touched objects (copy_contents h tree st.sound may))
+
+-- ---- the way back
+pub cut_back : (old now cut : List Content) (n : ℕ) → n ≡ length old → take (length old) now ≡ old → cut ≡ take n now → cut ≡ old
+cut_back old now cut n here kept e = e ∙ ap (λ (m : ℕ). take m now) here ∙ kept

@@ -18,7 +18,7 @@ use Rattle.run_heap.specs.declared.fault.DraftFault.TheVariants as fault
 use Rattle.draft_slots.specs.Looks.{kind_in}
 use Rattle.run_heap.specs.Heap.{Heap, copied, shown, is_foreign, with_objects, next_object}
 use Rattle.run_heap.specs.Laws.{AllContents}
-use Rattle.run_heap.proofs.Laws.{read_ours}
+use Rattle.run_heap.proofs.Laws.{get_append, read_ours}
 use Rattle.run_heap.specs.Operations.{Rows, listed, keys_of, rows_of, keys_shown, unless, read, then_read}
 use Rattle.value_model.specs.Kinds.{is_object}
 use Rattle.run_heap.specs.Sound.{IsStored, HasSource, RowsStored, all_stand, ascends}

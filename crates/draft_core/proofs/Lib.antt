@@ -9,4 +9,4 @@ pub mod Literals
 pub mod Marks
 pub mod Paths
 pub mod PlansLaws
-pub mod Watch
+pub mod Watched

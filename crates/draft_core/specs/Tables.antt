@@ -27,7 +27,7 @@ own_table s _ = None
 -- what was noted of a name, or else what it has now
 abbrev pub noted_or : Option (Option Content) → Option Content → Option Content
 noted_or None now = now
-noted_or (Some then) now = then
+noted_or (Some noted) now = noted
 
 -- what a name had of its own at the last `watch`: it was noted at the first write since
 abbrev pub own_then : Scope → ℕ → Option Content

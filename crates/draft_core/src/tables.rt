@@ -105,7 +105,7 @@ impl Scope {
 }
 
 fn copy_if(alloc: Global, content: Option<&Content>) -> Result<Option<Content>, AllocError>
-    ensures { IfOk result (λ o. MatchOption content (o ≡ None) (λ c. o ≡ Some c.now)) }
+    ensures { IfOk result (λ o. MatchOption content.entry (o ≡ None) (λ c. o ≡ Some c.now)) }
 {
     match content {
         Some(content) => Ok(Some(content.copy(alloc)?)),

@@ -1,6 +1,6 @@
 use Rattle.std.proofs.Common.{◌≡◌, ◌∙◌, ◌+◌, List, ◌∷◌, [], length, refl, ap, ℕ}
 use Rattle.run_heap.proofs.Laws.{made_fits}
-use Rattle.draft_core.proofs.Watch.{goes_made}
+use Rattle.draft_core.proofs.Watched.{goes_made}
 use Rattle.draft_core.proofs.FreshLaws.{heap_made, next_made}
 use Rattle.draft_core.specs.Seen.{heap}
 use Rattle.draft_core.proofs.scope.Scope.add.Goals as goal

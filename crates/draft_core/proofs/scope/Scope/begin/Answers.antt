@@ -2,7 +2,7 @@ use Rattle.node_store.specs.Paged.{states}
 use Rattle.std.proofs.Common.{◌∙◌, ap, ℕ}
 use Rattle.run_heap.specs.Heap.{opened}
 use Rattle.draft_core.proofs.Kept.{heap_begun}
-use Rattle.draft_core.proofs.Watch.{stands_begun, watched_begun}
+use Rattle.draft_core.proofs.Watched.{stands_begun, watched_begun}
 use Rattle.draft_core.proofs.scope.Scope.begin.Goals as goal
 
 pub returns-clause-heap : goal.returns-clause-heap

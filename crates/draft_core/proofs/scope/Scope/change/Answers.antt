@@ -1,7 +1,7 @@
 use Rattle.node_store.specs.Paged.{states}
 use Rattle.std.proofs.Common.{◌∙◌, refl, arith}
 use Rattle.draft_core.proofs.Changed.{change_may, change_done, change_sound, change_grows}
-use Rattle.draft_core.proofs.Watch.{goes_as, goes_then}
+use Rattle.draft_core.proofs.Watched.{goes_as, goes_then}
 use Rattle.draft_core.proofs.scope.Scope.change.Goals as goal
 
 pub returns-in_err-open-in-Obj-clause-goes : goal.returns-in_err-open-in-Obj-clause-goes

@@ -2,7 +2,7 @@ use Rattle.node_store.specs.Paged.{states}
 use Rattle.std.proofs.Common.{sym, subst}
 use Rattle.run_heap.specs.Sound.{AllStored}
 use Rattle.draft_core.proofs.ListsLaws.{list_contents}
-use Rattle.draft_core.proofs.Watch.{goes_more, goes_then}
+use Rattle.draft_core.proofs.Watched.{goes_more, goes_then}
 use Rattle.draft_core.specs.Seen.{heap}
 use Rattle.draft_core.proofs.scope.Scope.list_of.Goals as goal
 

@@ -10,7 +10,7 @@ use Rattle.draft_core.specs.declared.scope.Scope.{Scope}
 use Rattle.draft_core.proofs.Changed.{heap_same}
 use Rattle.draft_core.proofs.FreshLaws.{heap_made, next_made, literal_contents}
 use Rattle.draft_core.specs.Seen.{heap}
-use Rattle.draft_core.proofs.Watch.{goes_made, goes_same, watched_own}
+use Rattle.draft_core.proofs.Watched.{goes_made, goes_same, watched_own}
 use Rattle.draft_core.proofs.scope.Scope.make.Goals as goal
 
 pub returns-in_err-push-clause-done : goal.returns-in_err-push-clause-done

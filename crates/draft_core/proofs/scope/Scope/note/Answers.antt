@@ -5,7 +5,7 @@ use Rattle.std.specs.Map.{lookup}
 use Rattle.draft_core.proofs.Changed.{heap_same, apart, none_there}
 use Rattle.std.specs.Prelude.{Some}
 use Rattle.draft_core.specs.Tables.{noted_or, own_content}
-use Rattle.draft_core.proofs.Watch.{goes_same, watched_noted, watched_same}
+use Rattle.draft_core.proofs.Watched.{goes_same, watched_noted, watched_same}
 use Rattle.draft_core.proofs.scope.Scope.note.Goals as goal
 
 pub returns-in_err-insert-clause-heap : goal.returns-in_err-insert-clause-heap

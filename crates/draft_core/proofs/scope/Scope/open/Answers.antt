@@ -6,7 +6,7 @@ use Rattle.std.specs.Map.{lookup}
 use Rattle.draft_core.specs.Changed.{heap_opened, heap_unchanged}
 use Rattle.draft_core.proofs.Changed.{apart, none_there, later_own}
 use Rattle.draft_core.proofs.Kept.{node_fits, node_copied}
-use Rattle.draft_core.proofs.Watch.{goes_same, own_beside_draft, watched_written}
+use Rattle.draft_core.proofs.Watched.{goes_same, own_beside_draft, watched_written}
 use Rattle.draft_core.proofs.scope.Scope.open.Goals as goal
 
 pub returns-then-name-self-clause-own : goal.returns-then-name-self-clause-own
@@ -22,10 +22,9 @@ pub returns-in_err-insert-clause-goes : goal.returns-in_err-insert-clause-goes
 returns-in_err-insert-clause-goes c =
     let ts = states c.args.store.now in
     let s = c.args.self.now in
-    let others = λ q other. ap (lookup (is_at (nat_cmp q))) c.in_err-insert.ensures.err in
     let tables = c.in_err-insert.ensures.len in
     goes_same ts s _ 1 c.requires.stands (record { number = refl; root = refl; len = refl; drafts = refl }) (returns-in_err-insert-clause-heap c)
-    (watched_written ts s _ (record { number = refl; root = refl; len = refl; drafts = refl }) (record { seen = refl; noted = refl }) c.args.name c.requires.noted (own_beside_draft s _ c.args.name (record { number = refl; root = refl; len = refl; drafts = refl }) refl others))
+    (watched_written ts s _ (record { number = refl; root = refl; len = refl; drafts = refl }) (record { seen = refl; noted = refl }) c.args.name c.requires.noted (own_beside_draft s _ c.args.name (record { number = refl; root = refl; len = refl; drafts = refl }) refl (λ q other. ap (lookup (is_at (nat_cmp q))) c.in_err-insert.ensures.err)))
     (omega (arith, tables))
 
 pub returns-clause-heap : goal.returns-clause-heap
@@ -45,4 +44,7 @@ returns-clause-goes c =
     let tables = c.in_ok-insert.ensures.len in
     goes_same ts s _ 1 c.requires.stands (record { number = refl; root = refl; len = refl; drafts = refl }) (returns-clause-heap c)
     (watched_written ts s _ (record { number = refl; root = refl; len = refl; drafts = refl }) (record { seen = refl; noted = refl }) c.args.name c.requires.noted (own_beside_draft s _ c.args.name (record { number = refl; root = refl; len = refl; drafts = refl }) refl (λ q other. updates.2 q (apart c.args.name q other))))
-    (omega (arith, tables))
+    (grind (arith, tables))
+
+pub returns-in_err-content-clause-goes : goal.returns-in_err-content-clause-goes
+returns-in_err-content-clause-goes c = goes_same (states c.args.store.now) c.args.self.now _ 1 c.requires.stands (record { number = refl; root = refl; len = refl; drafts = refl }) refl refl (omega arith)

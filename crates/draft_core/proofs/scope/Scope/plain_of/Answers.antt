@@ -12,7 +12,7 @@ use Rattle.draft_core.proofs.Changed.{heap_same}
 use Rattle.draft_core.proofs.FreshLaws.{heap_made}
 use Rattle.draft_core.proofs.Literals.{few_places, plain_contents, made_literals}
 use Rattle.draft_core.specs.Seen.{heap}
-use Rattle.draft_core.proofs.Watch.{goes_made, goes_same, watched_own}
+use Rattle.draft_core.proofs.Watched.{goes_made, goes_same, watched_own}
 use Rattle.draft_core.specs.Left.{GoesOn}
 use Rattle.numbered.specs.Loading.{places}
 use Rattle.draft_core.proofs.scope.Scope.plain_of.Goals as goal

@@ -3,7 +3,7 @@ use Rattle.std.specs.Prelude.{nat_lt, if◌then◌else◌, slice_get}
 use Rattle.std.specs.BTreeMap.{get}
 use Rattle.std.specs.Ordering.{nat_cmp}
 use Rattle.draft_core.proofs.Changed.{heap_same}
-use Rattle.draft_core.proofs.Watch.{goes_same, watched_own}
+use Rattle.draft_core.proofs.Watched.{goes_same, watched_own}
 use Rattle.draft_core.proofs.scope.Scope.reserve.Goals as goal
 
 pub returns-clause-heap : goal.returns-clause-heap

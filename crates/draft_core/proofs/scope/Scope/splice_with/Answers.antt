@@ -5,7 +5,7 @@ use Rattle.run_heap.specs.Sound.{AllStored}
 use Rattle.draft_core.proofs.Keeping.{splice_keeps}
 use Rattle.draft_core.proofs.Kept.{object_owned}
 use Rattle.draft_core.proofs.ListsLaws.{all_stored_on, list_contents}
-use Rattle.draft_core.proofs.Watch.{goes_more, goes_then}
+use Rattle.draft_core.proofs.Watched.{goes_more, goes_then}
 use Rattle.draft_core.specs.Seen.{heap}
 use Rattle.draft_core.specs.Writes.{KeepsTable}
 use Rattle.draft_core.proofs.scope.Scope.splice_with.Goals as goal

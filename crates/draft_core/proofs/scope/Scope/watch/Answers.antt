@@ -1,6 +1,6 @@
 use Rattle.std.proofs.Common.{◌∙◌, ◌+◌, refl, ap, sym, subst, ℕ}
 use Rattle.draft_core.proofs.Changed.{heap_same}
-use Rattle.draft_core.proofs.Watch.{stands_watched, watched_now}
+use Rattle.draft_core.proofs.Watched.{stands_watched, watched_now}
 use Rattle.draft_core.proofs.scope.Scope.watch.Goals as goal
 
 pub returns-clause-heap : goal.returns-clause-heap

@@ -96,8 +96,8 @@ watched_noted ts s t n b seen own none here others = watched_same ts s t b seen 
   | true ↦ λ p.
       let e = eq_of m n p in
       let now : get nat_cmp t.noted m ≡ Some (own_content s m) = subst (λ (q : ℕ). get nat_cmp t.noted q ≡ Some (own_content s q)) (sym e) here in
-      let then : get nat_cmp s.noted m ≡ None = ap (get nat_cmp s.noted) e ∙ none in
-      rw (now, then) refl
+      let past : get nat_cmp s.noted m ≡ None = ap (get nat_cmp s.noted) e ∙ none in
+      rw (now, past) refl
   | false ↦ λ p. ap (λ (o : Option (Option Content)). noted_or o (own_content s m)) (others m (ne_of m n p))
 ] refl)
 
@@ -120,16 +120,16 @@ module _ (ts : List Tree) (s t : Scope) (cs : List Content) (st : Stands ts s) (
 
 -- ---- what a call leaves
 pub goes_as : (ts : List Tree) (s t : Scope) (more : ℕ) → Stands ts s → Beside s t → IsSound (heap ts t) → Grows (heap ts s) (heap ts t) → watched ts t ≡ watched ts s → slots t ≤ slots s + more → GoesOn ts s t more
-goes_as ts s t more st b sound grows then few = record {
-  stands = stands_as ts s t st b sound grows then;
+goes_as ts s t more st b sound grows past few = record {
+  stands = stands_as ts s t st b sound grows past;
   grows = grows;
   slots = few;
-  watched = then;
+  watched = past;
 }
 
 pub goes_same : (ts : List Tree) (s t : Scope) (more : ℕ) → Stands ts s → Beside s t → heap ts t ≡ heap ts s → watched ts t ≡ watched ts s → slots t ≤ slots s + more → GoesOn ts s t more
-goes_same ts s t more st b same then few =
-    goes_as ts s t more st b (subst IsSound (sym same) st.sound) (subst (Grows (heap ts s)) (sym same) (grows_refl (heap ts s))) then few
+goes_same ts s t more st b same past few =
+    goes_as ts s t more st b (subst IsSound (sym same) st.sound) (subst (Grows (heap ts s)) (sym same) (grows_refl (heap ts s))) past few
 
 pub goes_made : (ts : List Tree) (s t : Scope) (cs : List Content) → Stands ts s → Beside s t → SameNotes s t → t.touched ≡ s.touched → t.later.items ≡ s.later.items ++ cs → AllContents (with_objects cs (heap ts s)) cs → GoesOn ts s t (length cs)
 goes_made ts s t cs st b notes touched later all =
@@ -158,9 +158,10 @@ pub watched_begun : (ts : List Tree) (s : Scope) → s.len ≡ length ts → s.d
 watched_begun ts s len drafts none nothing seen quiet =
     let whole = take_whole ts s.len len in
     let t = tree_at ts s.root in
+    let nobody_there : Option Content = None in
     let nobody : (n : ℕ) → own_then s n ≡ None = λ n.
         (λ i. noted_or (lookup (is_at (nat_cmp n)) (quiet i)) (if nat_lt n s.drafts then lookup (is_at (nat_cmp n)) (none i) else slice_get (nothing i) (n - s.drafts)))
-        ∙ elim (nat_lt n s.drafts) as (λ x. (if x then None else slice_get [] (n - s.drafts)) ≡ None) [ true ↦ refl | false ↦ refl ] in
+        ∙ elim (nat_lt n s.drafts) as (λ x. (if x then nobody_there else slice_get [] (n - s.drafts)) ≡ nobody_there) [ true ↦ refl | false ↦ refl ] in
     let few = seen ∙ drafts in
     sym (watched_is ts s)
     ∙ (λ i. seen_heap s.number (whole i) s.root (few i) (λ n. nobody n i))
@@ -170,7 +171,7 @@ pub stands_begun : (ts : List Tree) (s : Scope) → IsStore ts → IsNumber ts s
 stands_begun ts s store root len drafts none nothing seen quiet =
     let whole = take_whole ts s.len len in
     let now = heap_begun ts s len drafts none nothing in
-    let then = watched_begun ts s len drafts none nothing seen quiet in
+    let past = watched_begun ts s len drafts none nothing seen quiet in
     let sound = opened_sound s.number ts s.root store root in
     record {
       store = store;
@@ -178,8 +179,8 @@ stands_begun ts s store root len drafts none nothing seen quiet =
       root = rw whole root;
       drafts = rw whole drafts;
       sound = subst IsSound (sym now) sound;
-      before = subst IsSound (sym then) sound;
-      since = subst (λ (h : Heap). Grows h (heap ts s)) (sym then) (subst (Grows (opened s.number ts s.root)) (sym now) (grows_refl (opened s.number ts s.root)));
+      before = subst IsSound (sym past) sound;
+      since = subst (λ (h : Heap). Grows h (heap ts s)) (sym past) (subst (Grows (opened s.number ts s.root)) (sym now) (grows_refl (opened s.number ts s.root)));
     }
 
 some_or : (o d : Option Content) → o ≢ None → option_or o d ≡ o
@@ -206,12 +207,12 @@ module _ (ts : List Tree) (s t : Scope) (b : Beside s t) (touched : t.touched �
       ∙ heap_is ts s
 
 pub stands_watched : (ts : List Tree) (s t : Scope) → Stands ts s → Beside s t → heap ts t ≡ heap ts s → watched ts t ≡ heap ts s → Stands ts t
-stands_watched ts s t st b same then = record {
+stands_watched ts s t st b same past = record {
   store = st.store;
   long = rw b.len st.long;
   root = rw (b.len, b.root) st.root;
   drafts = rw (b.drafts, b.len, b.root) st.drafts;
   sound = subst IsSound (sym same) st.sound;
-  before = subst IsSound (sym then) st.sound;
-  since = subst (Grows (watched ts t)) (sym same) (subst (λ (h : Heap). Grows h (heap ts s)) (sym then) (grows_refl (heap ts s)));
+  before = subst IsSound (sym past) st.sound;
+  since = subst (Grows (watched ts t)) (sym same) (subst (λ (h : Heap). Grows h (heap ts s)) (sym past) (grows_refl (heap ts s)));
 }
