@@ -54,8 +54,9 @@ returns-clause-goes c = λ ts st.
     let v = c.args.v.now in
     let first = ap (λ (n : ℕ). s.drafts + n) (c.len.ensures ∙ s.later.ok.0) in
     let m = made_literals ts s _ v _ _ _ first c.new-made.ensures.items c.in_ok-value.ensures in
+    let t : Scope = record s { later = c.append.new.self } in
     let items = c.in_ok-append.ensures.items ∙ ap (λ cs. s.later.items ++ cs) m.objects in
-    subst (λ (n : ℕ). GoesOn ts s _ n) (literal_count h v) (goes_made ts s _ (literals h v) st (record { number = refl; root = refl; len = refl; drafts = refl }) (record { seen = refl; noted = refl }) refl items (plain_contents h v c.in_ok-value.ensures.2 c.requires))
+    subst (λ (n : ℕ). GoesOn ts s t n) (literal_count h v) (goes_made ts s t (literals h v) st (record { number = refl; root = refl; len = refl; drafts = refl }) (record { seen = refl; noted = refl }) refl items (plain_contents h v c.in_ok-value.ensures.2 c.requires))
 
 pub returns-clause-fits : goal.returns-clause-fits
 returns-clause-fits c = λ ts st.
