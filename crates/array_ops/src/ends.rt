@@ -3,6 +3,7 @@ ghost use Rattle.node_store.specs.Paged.{states};
 ghost use Rattle.std.specs.Prelude.{◌≡◌, ◌≤◌, ◌+◌, IfOk};
 ghost use Rattle.run_heap.specs.Answers.{Does};
 ghost use Rattle.run_heap.specs.Sound.{AllOwned, Fits, Grows, Owned};
+ghost use Rattle.draft_core.specs.Left.{GoesOn};
 ghost use Rattle.draft_core.specs.Seen.{heap, Stands};
 ghost use Rattle.draft_core.specs.Writes.{slots};
 ghost use Rattle.array_ops_spec.specs.Calls as spec;
@@ -26,9 +27,7 @@ pub fn push(
     requires owned { Owned (heap (states store.now) scope.old) of.now }
     requires items { AllOwned (heap (states store.now) scope.old) items.now }
     ensures done { Does result (heap (states store.now) scope.old) (heap (states store.now) scope.new) (spec.push items.now (heap (states store.now) scope.old) of.now) }
-    ensures stands { Stands (states store.now) scope.new }
-    ensures grows { Grows (heap (states store.now) scope.old) (heap (states store.now) scope.new) }
-    ensures tables { slots scope.new ≤ slots scope.old + 1 }
+    ensures goes { GoesOn (states store.now) scope.old scope.new 1 }
 {
     let count = writable(scope, store, of, items)?;
     if any_undefined(items) {
@@ -52,9 +51,7 @@ pub fn unshift(
     requires owned { Owned (heap (states store.now) scope.old) of.now }
     requires items { AllOwned (heap (states store.now) scope.old) items.now }
     ensures done { Does result (heap (states store.now) scope.old) (heap (states store.now) scope.new) (spec.unshift items.now (heap (states store.now) scope.old) of.now) }
-    ensures stands { Stands (states store.now) scope.new }
-    ensures grows { Grows (heap (states store.now) scope.old) (heap (states store.now) scope.new) }
-    ensures tables { slots scope.new ≤ slots scope.old + 1 }
+    ensures goes { GoesOn (states store.now) scope.old scope.new 1 }
 {
     let count = writable(scope, store, of, items)?;
     if any_undefined(items) {
@@ -70,10 +67,8 @@ pub fn pop(alloc: Global, scope: &mut Scope, store: &Store, of: &Rv) -> Result<R
     requires stands { Stands (states store.now) scope.old }
     requires owned { Owned (heap (states store.now) scope.old) of.now }
     ensures done { Does result (heap (states store.now) scope.old) (heap (states store.now) scope.new) (spec.pop (heap (states store.now) scope.old) of.now) }
-    ensures stands { Stands (states store.now) scope.new }
-    ensures grows { Grows (heap (states store.now) scope.old) (heap (states store.now) scope.new) }
+    ensures goes { GoesOn (states store.now) scope.old scope.new 1 }
     ensures fits { IfOk result (λ v. Fits (heap (states store.now) scope.new) v) }
-    ensures tables { slots scope.new ≤ slots scope.old + 1 }
 {
     let count = writable(scope, store, of, &[])?;
     let from = count.saturating_sub(1);
@@ -88,10 +83,8 @@ pub fn shift(alloc: Global, scope: &mut Scope, store: &Store, of: &Rv) -> Result
     requires stands { Stands (states store.now) scope.old }
     requires owned { Owned (heap (states store.now) scope.old) of.now }
     ensures done { Does result (heap (states store.now) scope.old) (heap (states store.now) scope.new) (spec.shift (heap (states store.now) scope.old) of.now) }
-    ensures stands { Stands (states store.now) scope.new }
-    ensures grows { Grows (heap (states store.now) scope.old) (heap (states store.now) scope.new) }
+    ensures goes { GoesOn (states store.now) scope.old scope.new 1 }
     ensures fits { IfOk result (λ v. Fits (heap (states store.now) scope.new) v) }
-    ensures tables { slots scope.new ≤ slots scope.old + 1 }
 {
     let count = writable(scope, store, of, &[])?;
     let first = element(alloc, scope, store, of, 0)?;

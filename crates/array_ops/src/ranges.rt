@@ -3,6 +3,7 @@ ghost use Rattle.node_store.specs.Paged.{states};
 ghost use Rattle.std.specs.Prelude.{◌≡◌, ◌≤◌, ◌+◌, IfOk};
 ghost use Rattle.run_heap.specs.Answers.{Does};
 ghost use Rattle.run_heap.specs.Sound.{AllOwned, Fits, Grows, Owned};
+ghost use Rattle.draft_core.specs.Left.{GoesOn};
 ghost use Rattle.draft_core.specs.Seen.{heap, Stands};
 ghost use Rattle.draft_core.specs.Writes.{slots};
 ghost use Rattle.array_ops_spec.specs.Calls as spec;
@@ -30,10 +31,8 @@ pub fn splice(
     requires owned { Owned (heap (states store.now) scope.old) of.now }
     requires items { AllOwned (heap (states store.now) scope.old) items.now }
     ensures done { Does result (heap (states store.now) scope.old) (heap (states store.now) scope.new) (spec.splice start count items.now (heap (states store.now) scope.old) of.now) }
-    ensures stands { Stands (states store.now) scope.new }
-    ensures grows { Grows (heap (states store.now) scope.old) (heap (states store.now) scope.new) }
+    ensures goes { GoesOn (states store.now) scope.old scope.new 2 }
     ensures fits { IfOk result (λ v. Fits (heap (states store.now) scope.new) v) }
-    ensures tables { slots scope.new ≤ slots scope.old + 2 }
 {
     let len = writable(scope, store, of, items)?;
     if any_undefined(items) {
@@ -59,10 +58,8 @@ pub fn slice(
     requires stands { Stands (states store.now) scope.old }
     requires owned { Owned (heap (states store.now) scope.old) of.now }
     ensures done { Does result (heap (states store.now) scope.old) (heap (states store.now) scope.new) (spec.slice start end (heap (states store.now) scope.old) of.now) }
-    ensures stands { Stands (states store.now) scope.new }
-    ensures grows { Grows (heap (states store.now) scope.old) (heap (states store.now) scope.new) }
+    ensures goes { GoesOn (states store.now) scope.old scope.new 1 }
     ensures fits { IfOk result (λ v. Fits (heap (states store.now) scope.new) v) }
-    ensures tables { slots scope.new ≤ slots scope.old + 1 }
 {
     let len = readable(scope, store, of, &[])?;
     let from = relative(start, len);
@@ -77,9 +74,7 @@ pub fn reverse(alloc: Global, scope: &mut Scope, store: &Store, of: &Rv) -> Resu
     requires stands { Stands (states store.now) scope.old }
     requires owned { Owned (heap (states store.now) scope.old) of.now }
     ensures done { Does result (heap (states store.now) scope.old) (heap (states store.now) scope.new) (spec.reverse (heap (states store.now) scope.old) of.now) }
-    ensures stands { Stands (states store.now) scope.new }
-    ensures grows { Grows (heap (states store.now) scope.old) (heap (states store.now) scope.new) }
-    ensures tables { slots scope.new ≤ slots scope.old + 1 }
+    ensures goes { GoesOn (states store.now) scope.old scope.new 1 }
 {
     let len = writable(scope, store, of, &[])?;
     let mut items = elements(alloc, scope, store, of, 0, len)?;
@@ -101,9 +96,7 @@ pub fn set_length(
     requires stands { Stands (states store.now) scope.old }
     requires owned { Owned (heap (states store.now) scope.old) of.now }
     ensures done { Does result (heap (states store.now) scope.old) (heap (states store.now) scope.new) (spec.set_length n (heap (states store.now) scope.old) of.now) }
-    ensures stands { Stands (states store.now) scope.new }
-    ensures grows { Grows (heap (states store.now) scope.old) (heap (states store.now) scope.new) }
-    ensures tables { slots scope.new ≤ slots scope.old + 1 }
+    ensures goes { GoesOn (states store.now) scope.old scope.new 1 }
 {
     let len = writable(scope, store, of, &[])?;
     let end = match cut_at(n, len) {

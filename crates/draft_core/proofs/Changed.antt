@@ -8,7 +8,7 @@ use Rattle.numbered.specs.Store.{tree_at}
 use Rattle.numbered.specs.Tree.{Tree, place}
 use Rattle.run_heap.specs.declared.content.Content.{Content}
 use Rattle.run_heap.specs.Heap.{Heap, copied, shown, update, write_table}
-use Rattle.run_heap.proofs.Laws.{get_some, update_sound, grows_update, grows_refl}
+use Rattle.run_heap.proofs.Laws.{get_some, update_sound, grows_update, grows_refl, grows_on}
 use Rattle.run_heap.specs.Operations.{rows_of, table_of, rewrite, rewrite_shown}
 use Rattle.run_heap.specs.declared.value.ObjRef.{ObjRef}
 use Rattle.run_heap.specs.declared.value.Rv.{Rv}
@@ -19,7 +19,7 @@ use Rattle.draft_core.specs.Writes.{KeepsTable, KeepsIn}
 use Rattle.draft_slots.specs.declared.change.Change.{Change}
 use Rattle.draft_slots.specs.Looks.{changed, MayChange}
 use Rattle.draft_core.specs.declared.scope.Scope.{Scope}
-use Rattle.draft_core.specs.Seen.{heap, Stands, kept_heap}
+use Rattle.draft_core.specs.Seen.{heap, watched, Stands, kept_heap}
 use Rattle.draft_core.specs.Tables.{Beside, MayRewrite, own_content}
 use Rattle.draft_core.proofs.Kept.{later_inside}
 use Rattle.draft_core.specs.Changed.{heap_is, fields, changed_content, own_draft, own_later, on_ok, Rewrote}
@@ -29,13 +29,15 @@ heap_same ts s t b touched later =
     fields ts s t b ∙ (λ i. kept_heap s.number (take s.len ts) s.root s.drafts (get nat_cmp (touched i)) (later i)) ∙ heap_is ts s
 
 -- ---- what holds of scope and store
-pub stands_as : (ts : List Tree) (s t : Scope) → Stands ts s → Beside s t → IsSound (heap ts t) → Stands ts t
-stands_as ts s t st b sound = record {
+pub stands_as : (ts : List Tree) (s t : Scope) → Stands ts s → Beside s t → IsSound (heap ts t) → Grows (heap ts s) (heap ts t) → watched ts t ≡ watched ts s → Stands ts t
+stands_as ts s t st b sound grows past = record {
   store = st.store;
   long = rw b.len st.long;
   root = rw (b.len, b.root) st.root;
   drafts = rw (b.drafts, b.len, b.root) st.drafts;
   sound = sound;
+  before = subst IsSound (sym past) st.before;
+  since = subst (λ (h : Heap). Grows h (heap ts t)) (sym past) (grows_on (watched ts s) (heap ts s) (heap ts t) st.since grows);
 }
 
 pub on_err : {X E : Type 0} (r : Result X E) (P Q : Type 0) → OnErr r P → (P → Q) → OnErr r Q
@@ -67,7 +69,7 @@ apart n q other =
       | false ↦ rw no refl
     ]
 
-pub none_there : (o : Option Content) → false ≡ is_some o → o ≡ None
+pub none_there : {A : Type 0} (o : Option A) → false ≡ is_some o → o ≡ None
 none_there None h = refl
 none_there (Some c) h = absurd (cc)
 

@@ -18,7 +18,7 @@ use Rattle.run_heap.specs.declared.fault.DraftFault.TheVariants as fault
 use Rattle.draft_slots.specs.Looks.{kind_in}
 use Rattle.run_heap.specs.Heap.{Heap, copied, shown, is_foreign, with_objects, next_object}
 use Rattle.run_heap.specs.Laws.{AllContents}
-use Rattle.run_heap.proofs.Laws.{read_ours}
+use Rattle.run_heap.proofs.Laws.{get_append, read_ours}
 use Rattle.run_heap.specs.Operations.{Rows, listed, keys_of, rows_of, keys_shown, unless, read, then_read}
 use Rattle.value_model.specs.Kinds.{is_object}
 use Rattle.run_heap.specs.Sound.{IsStored, HasSource, RowsStored, all_stand, ascends}
@@ -40,14 +40,6 @@ primitive_stored h [] p = tt
 primitive_stored h (e ∷ t) p = (one_stored h e.1 p.0, primitive_stored h t p.1)
 
 -- ---- the objects are added
-get_append : (cs ds : List Content) (i : ℕ) → slice_get (cs ++ ds) i ≡ (if nat_lt i (length cs) then slice_get cs i else slice_get ds (i - length cs))
-get_append [] ds i = let z : i - 0 ≡ i = omega arith in let no : nat_lt i 0 ≡ false = grind arith in rw (no, z) refl
-get_append (c ∷ cs) ds zero = let yes : nat_lt 0 (suc (length cs)) ≡ true = grind arith in rw yes refl
-get_append (c ∷ cs) ds (suc i) =
-    let same : nat_lt (suc i) (suc (length cs)) ≡ nat_lt i (length cs) = grind arith in
-    let less : suc i - suc (length cs) ≡ i - length cs = omega arith in
-    rw (same, less) (get_append cs ds i)
-
 made_object : (scope : ℕ) (opening : Tree) (drafts : ℕ) (touched : ℕ → Option Content) (later cs : List Content) (m : ℕ) → kept_object scope opening drafts touched (later ++ cs) m ≡ (if nat_lt m (drafts + length later) then kept_object scope opening drafts touched later m else slice_get cs (m - (drafts + length later)))
 made_object scope opening drafts touched later cs m = elim (nat_lt m drafts) as (λ b. nat_lt m drafts ≡ b → (if b then option_or (touched m) (copied scope m (place m opening)) else slice_get (later ++ cs) (m - drafts)) ≡ (if nat_lt m (drafts + length later) then (if b then option_or (touched m) (copied scope m (place m opening)) else slice_get later (m - drafts)) else slice_get cs (m - (drafts + length later)))) [
   | true ↦ λ p. let yes : nat_lt m (drafts + length later) ≡ true = grind (arith, p) in rw yes refl

@@ -50,7 +50,7 @@ pub take_whole : (ts : List Tree) (n : ℕ) → n ≡ length ts → take n ts �
 take_whole ts n h = grind (arith, common_steps, h)
 
 -- ---- the beginning
-empty_object : (scope n : ℕ) (t : Tree) → (if nat_lt n (containers t) then copied scope n (place n t) else None) ≡ copied scope n (place n t)
+pub empty_object : (scope n : ℕ) (t : Tree) → (if nat_lt n (containers t) then copied scope n (place n t) else None) ≡ copied scope n (place n t)
 empty_object scope n t = elim (nat_lt n (containers t)) as (λ b. nat_lt n (containers t) ≡ b → (if b then copied scope n (place n t) else None) ≡ copied scope n (place n t)) [
   | true ↦ λ p. refl
   | false ↦ λ p. sym (ap (copied scope n) (no_place n t (grind (arith, p))))
@@ -67,17 +67,6 @@ heap_begun ts s len drafts none nothing =
     let whole = take_whole ts s.len len in
     unfold heap in
     ((λ i. kept_heap s.number (whole i) s.root (drafts i) (λ n. lookup (is_at (nat_cmp n)) (none i)) (nothing i)) ∙ begun s.number ts s.root)
-
-pub stands_begun : (ts : List Tree) (s : Scope) → IsStore ts → IsNumber ts s.root → s.len ≡ length ts → s.drafts ≡ containers (tree_at ts s.root) → s.touched.entries ≡ [] → s.later.items ≡ [] → Stands ts s
-stands_begun ts s store root len drafts none nothing =
-    let whole = take_whole ts s.len len in
-    record {
-      store = store;
-      long = omega (arith, len);
-      root = rw whole root;
-      drafts = rw whole drafts;
-      sound = subst IsSound (sym (heap_begun ts s len drafts none nothing)) (opened_sound s.number ts s.root store root);
-    }
 
 -- ---- what the heap's fields are
 pub scope_is : (ts : List Tree) (s : Scope) → (heap ts s).scope ≡ s.number

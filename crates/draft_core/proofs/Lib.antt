@@ -1,4 +1,5 @@
 pub mod Changed
+pub mod Copying
 pub mod Ended
 pub mod FreshLaws
 pub mod Keeping
@@ -8,3 +9,4 @@ pub mod Literals
 pub mod Marks
 pub mod Paths
 pub mod PlansLaws
+pub mod Watched

@@ -39,21 +39,3 @@ all_on g h (v ∷ vs) o s = (stored_on g h v o s.0, all_on g h vs o s.1)
 
 pub all_stored_on : (g h : Heap) (vs : List Rv) → Grows g h → AllStored g vs → AllStored h vs
 all_stored_on g h vs w s = all_on g h vs (record { scope = w.scope; states = w.states; more = w.more }) s
-
-keeps_on : (a b c : Option Content) → Keeps a b → Keeps b c → Keeps a c
-keeps_on None b c p q = tt
-keeps_on (Some a) None c p q = absurd p
-keeps_on (Some a) (Some b) None p q = absurd q
-keeps_on (Some a) (Some b) (Some c) p q = (q.0 ∙ p.0, q.1 ∙ p.1, λ w. q.2 (p.2 w))
-
-pub grows_on : (f g h : Heap) → Grows f g → Grows g h → Grows f h
-grows_on f g h p q =
-    let few = p.more in
-    let more = q.more in
-    record {
-      scope = q.scope ∙ p.scope;
-      states = q.states ∙ p.states;
-      root = q.root ∙ p.root;
-      more = omega (arith, few, more);
-      keeps = λ n. keeps_on (f.object n) (g.object n) (h.object n) (p.keeps n) (q.keeps n);
-    }

@@ -14,10 +14,10 @@ use Rattle.draft_core.specs.declared.scope.Scope.{Scope}
 use Rattle.draft_core.specs.Seen.{heap, kept_heap, kept_object}
 use Rattle.draft_core.specs.Tables.{Beside, own_content}
 
-eq_of : (m n : ℕ) → (m == n) ≡ true → m ≡ n
+pub eq_of : (m n : ℕ) → (m == n) ≡ true → m ≡ n
 eq_of m n h = grind (arith, h)
 
-ne_of : (m n : ℕ) → (m == n) ≡ false → m ≢ n
+pub ne_of : (m n : ℕ) → (m == n) ≡ false → m ≢ n
 ne_of m n h = grind (arith, h)
 
 -- ---- a draft's table

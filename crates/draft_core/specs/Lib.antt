@@ -1,6 +1,7 @@
 pub mod Changed
 pub mod Ended
 pub mod Fresh
+pub mod Left
 pub mod Marks
 pub mod Paths
 pub mod Plans

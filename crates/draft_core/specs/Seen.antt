@@ -13,9 +13,9 @@ use Rattle.draft_slots.specs.Nodes.{given_cell}
 use Rattle.run_heap.specs.declared.content.Content.{Content}
 use Rattle.run_heap.specs.Heap.{Heap, copied}
 use Rattle.run_heap.specs.Operations.{table_of, value_at, source, marked}
-use Rattle.run_heap.specs.Sound.{IsSound}
+use Rattle.run_heap.specs.Sound.{IsSound, Grows}
 use Rattle.draft_core.specs.declared.scope.Scope.{Scope}
-use Rattle.draft_core.specs.Tables.{own_table}
+use Rattle.draft_core.specs.Tables.{own_table, own_then}
 use Rattle.draft_slots.specs.declared.look.Peek.{Peek}
 use Rattle.draft_slots.specs.declared.look.Peek.TheVariants.{Read, Untouched}
 
@@ -40,6 +40,20 @@ kept_heap scope states root drafts touched later = record {
 unfoldable pub heap : List Tree → Scope → Heap
 heap ts s = kept_heap s.number (take s.len ts) s.root s.drafts (get nat_cmp s.touched) s.later.items
 
+-- the objects that there were at the last `watch`: each had a table of its own, or was its place in the opening state
+abbrev pub seen_heap : ℕ → List Tree → ℕ → ℕ → (ℕ → Option Content) → Heap
+seen_heap scope states root seen own = record {
+  scope = scope;
+  states = states;
+  root = root;
+  next = seen;
+  object = λ n. if nat_lt n seen then option_or (own n) (copied scope n (place n (tree_at states root))) else None;
+}
+
+-- the heap that the scope stood for at its last `watch`, or at its beginning where there was none
+unfoldable pub watched : List Tree → Scope → Heap
+watched ts s = seen_heap s.number (take s.len ts) s.root s.seen (own_then s)
+
 -- what holds of a scope and the store that it is used with
 pub record Stands (ts : List Tree) (s : Scope) : Type 0 where
   pub store : IsStore ts
@@ -47,6 +61,9 @@ pub record Stands (ts : List Tree) (s : Scope) : Type 0 where
   pub root : IsNumber (take s.len ts) s.root
   pub drafts : s.drafts ≡ containers (tree_at (take s.len ts) s.root)
   pub sound : IsSound (heap ts s)
+  -- at the last `watch`, and since
+  pub before : IsSound (watched ts s)
+  pub since : Grows (watched ts s) (heap ts s)
 
 -- the i-th cell of the node that a container was opened on, which has no table of its own: its containers are given out
 pub record IsUntouched (ts : List Tree) (s : Scope) (of : Rv) (i : ℕ) (c : Cell) : Type 0 where

@@ -1,5 +1,5 @@
 -- The objects that have a table of their own.
-use Rattle.std.specs.Prelude.{◌≡◌, ◌≢◌, ℕ, ◌-◌, Option, Some, None, nat_lt, if◌then◌else◌, slice_get}
+use Rattle.std.specs.Prelude.{◌≡◌, ◌≢◌, ℕ, ◌-◌, ◌<◌, Option, Some, None, nat_lt, if◌then◌else◌, slice_get}
 use Rattle.std.specs.Vec.{vec_capacity, vec_len}
 use Rattle.std.specs.BTreeMap.{get}
 use Rattle.std.specs.Ordering.{nat_cmp}
@@ -24,6 +24,19 @@ abbrev pub own_table : Scope → Rv → Option Content
 own_table s (Obj r) = own_content s r.slot
 own_table s _ = None
 
+-- what was noted of a name, or else what it has now
+abbrev pub noted_or : Option (Option Content) → Option Content → Option Content
+noted_or None now = now
+noted_or (Some noted) now = noted
+
+-- what a name had of its own at the last `watch`: it was noted at the first write since
+abbrev pub own_then : Scope → ℕ → Option Content
+own_then s n = noted_or (get nat_cmp s.noted n) (own_content s n)
+
+-- what the name had is noted, where it was there at the last `watch`
+abbrev pub IsNoted : Scope → ℕ → Type 0
+IsNoted s n = n < s.seen → get nat_cmp s.noted n ≢ None
+
 -- the same by a look at it
 abbrev pub own_look : Look → Option Content
 own_look (Own c) = Some c.now
@@ -39,6 +52,11 @@ pub record Beside (s t : Scope) : Type 0 where
   pub root : t.root ≡ s.root
   pub len : t.len ≡ s.len
   pub drafts : t.drafts ≡ s.drafts
+
+-- nothing was noted
+pub record SameNotes (s t : Scope) : Type 0 where
+  pub seen : t.seen ≡ s.seen
+  pub noted : t.noted ≡ s.noted
 
 -- the later objects have as much room as before
 pub record SameRoom (s t : Scope) : Type 0 where

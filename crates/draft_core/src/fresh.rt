@@ -1,19 +1,23 @@
 //! Calls that make objects.
 ghost use Rattle.node_store.specs.Paged.{states};
 ghost use Rattle.std.specs.Prelude.{◌≡◌, ◌+◌, ◌≤◌, [], IfOk, List, None};
-ghost use Rattle.numbered.specs.Tree.{Tree};
+ghost use Rattle.numbered.specs.Loading.{places};
+ghost use Rattle.numbered.specs.Tree.{Tree, containers};
 ghost use Rattle.value_model.specs.Limits.{value_limit};
 ghost use Rattle.value_model.specs.declared.kind.Kind.TheVariants as kind;
 ghost use Rattle.run_heap.specs.Answers.{Answers, Does, Makes};
+ghost use Rattle.run_heap.specs.Copies.{MayCopy, copy_value, unfolded, with_copy};
 ghost use Rattle.run_heap.specs.Heap.{next_object, with_object};
 ghost use Rattle.run_heap.specs.Operations as spec;
 ghost use Rattle.run_heap.specs.Operations.{read};
 ghost use Rattle.run_heap.specs.Sound.{Fits, Grows, Owned};
 ghost use Rattle.draft_core.specs.Fresh.{IsLiteral};
+ghost use Rattle.draft_core.specs.Left.{GoesOn};
 ghost use Rattle.draft_core.specs.Seen.{heap, Stands};
 ghost use Rattle.draft_core.specs.Writes.{slots};
 
 use crate::scope::Scope;
+use draft_copies::{CopyTree, copies};
 use draft_literals::literals;
 use node_store::{Kind, Store};
 use run_heap::{Content, DraftFault, ObjRef, Rv, Table};
@@ -24,10 +28,8 @@ impl Scope {
     /// A fresh empty literal.
     pub fn new_of(&mut self, alloc: Global, kind: Kind) -> Result<Rv, AllocError>
         ensures done { (ts : List Tree) → Stands ts self.old → Makes result (heap ts self.old) (heap ts self.new) (spec.new_of kind (heap ts self.old)) (next_object (heap ts self.old)) }
-        ensures stands { (ts : List Tree) → Stands ts self.old → Stands ts self.new }
-        ensures grows { (ts : List Tree) → Stands ts self.old → Grows (heap ts self.old) (heap ts self.new) }
+        ensures goes { (ts : List Tree) → Stands ts self.old → GoesOn ts self.old self.new 1 }
         ensures fits { (ts : List Tree) → Stands ts self.old → IfOk result (λ v. Fits (heap ts self.new) v) }
-        ensures tables { slots self.new ≤ slots self.old + 1 }
     {
         self.make(Content {
             kind,
@@ -40,10 +42,8 @@ impl Scope {
     /// A fresh empty object.
     pub fn new_object(&mut self, alloc: Global) -> Result<Rv, AllocError>
         ensures done { (ts : List Tree) → Stands ts self.old → Makes result (heap ts self.old) (heap ts self.new) (spec.new_of kind.Obj (heap ts self.old)) (next_object (heap ts self.old)) }
-        ensures stands { (ts : List Tree) → Stands ts self.old → Stands ts self.new }
-        ensures grows { (ts : List Tree) → Stands ts self.old → Grows (heap ts self.old) (heap ts self.new) }
+        ensures goes { (ts : List Tree) → Stands ts self.old → GoesOn ts self.old self.new 1 }
         ensures fits { (ts : List Tree) → Stands ts self.old → IfOk result (λ v. Fits (heap ts self.new) v) }
-        ensures tables { slots self.new ≤ slots self.old + 1 }
     {
         self.new_of(alloc, Kind::Obj)
     }
@@ -51,10 +51,8 @@ impl Scope {
     /// A fresh empty list.
     pub fn new_list(&mut self, alloc: Global) -> Result<Rv, AllocError>
         ensures done { (ts : List Tree) → Stands ts self.old → Makes result (heap ts self.old) (heap ts self.new) (spec.new_of kind.List (heap ts self.old)) (next_object (heap ts self.old)) }
-        ensures stands { (ts : List Tree) → Stands ts self.old → Stands ts self.new }
-        ensures grows { (ts : List Tree) → Stands ts self.old → Grows (heap ts self.old) (heap ts self.new) }
+        ensures goes { (ts : List Tree) → Stands ts self.old → GoesOn ts self.old self.new 1 }
         ensures fits { (ts : List Tree) → Stands ts self.old → IfOk result (λ v. Fits (heap ts self.new) v) }
-        ensures tables { slots self.new ≤ slots self.old + 1 }
     {
         self.new_of(alloc, Kind::List)
     }
@@ -65,10 +63,8 @@ impl Scope {
         requires stands { Stands (states store.now) self.old }
         requires owned { Owned (heap (states store.now) self.old) of.now }
         ensures done { Does result (heap (states store.now) self.old) (heap (states store.now) self.new) (spec.keys (heap (states store.now) self.old) of.now) }
-        ensures stands { Stands (states store.now) self.new }
-        ensures grows { Grows (heap (states store.now) self.old) (heap (states store.now) self.new) }
+        ensures goes { GoesOn (states store.now) self.old self.new 1 }
         ensures fits { IfOk result (λ v. Fits (heap (states store.now) self.new) v) }
-        ensures tables { slots self.new ≤ slots self.old + 1 }
     {
         let table = self.key_list(alloc, store, of)?;
         let list = Content {
@@ -102,10 +98,8 @@ impl Scope {
     fn make(&mut self, content: Content) -> Result<Rv, AllocError>
         requires { IsLiteral content }
         ensures done { (ts : List Tree) → Stands ts self.old → Makes result (heap ts self.old) (heap ts self.new) (with_object content (heap ts self.old)) (next_object (heap ts self.old)) }
-        ensures stands { (ts : List Tree) → Stands ts self.old → Stands ts self.new }
-        ensures grows { (ts : List Tree) → Stands ts self.old → Grows (heap ts self.old) (heap ts self.new) }
+        ensures goes { (ts : List Tree) → Stands ts self.old → GoesOn ts self.old self.new 1 }
         ensures fits { (ts : List Tree) → Stands ts self.old → IfOk result (λ v. Fits (heap ts self.new) v) }
-        ensures tables { slots self.new ≤ slots self.old + 1 }
     {
         let slot = self.drafts as u64 + self.later.len() as u64;
         self.later.push(content)?;
@@ -115,12 +109,38 @@ impl Scope {
         }))
     }
 
+    /// The next copy: the objects of a tree's containers, with the next names in pre-order. The objects of a whole state have the
+    /// numbers of its containers as their sources, the others none. After want of memory all is as before.
+    pub fn copy(&mut self, alloc: Global, store: &Store, tree: &CopyTree) -> Result<Rv, AllocError>
+        requires stands { Stands (states store.now) self.old }
+        requires tree { MayCopy (heap (states store.now) self.old).states tree.now }
+        ensures done { Makes result (heap (states store.now) self.old) (heap (states store.now) self.new) (with_copy tree.now (heap (states store.now) self.old)) (copy_value (heap (states store.now) self.old) tree.now) }
+        ensures goes { GoesOn (states store.now) self.old self.new (containers (unfolded (heap (states store.now) self.old).states tree.now)) }
+        ensures fits { IfOk result (λ v. Fits (heap (states store.now) self.new) v) }
+    {
+        let len = self.later.len();
+        let copied = copies(
+            alloc,
+            store,
+            self.number,
+            self.drafts as u64,
+            tree,
+            &mut self.later,
+        );
+        match copied {
+            Ok(value) => Ok(value),
+            Err(e) => {
+                self.later.truncate(len);
+                Err(e)
+            }
+        }
+    }
+
     /// Fresh literals of a plain value: its containers get the next names in post-order. After want of memory all is as before.
     pub fn plain_of(&mut self, alloc: Global, v: &Val) -> Result<Rv, AllocError>
         requires { value_limit v.now ≡ None }
         ensures done { (ts : List Tree) → Stands ts self.old → Makes result (heap ts self.old) (heap ts self.new) (spec.with_plain v.now (heap ts self.old)) (spec.plain_value (heap ts self.old) v.now) }
-        ensures stands { (ts : List Tree) → Stands ts self.old → Stands ts self.new }
-        ensures grows { (ts : List Tree) → Stands ts self.old → Grows (heap ts self.old) (heap ts self.new) }
+        ensures goes { (ts : List Tree) → Stands ts self.old → GoesOn ts self.old self.new (places v.now) }
         ensures fits { (ts : List Tree) → Stands ts self.old → IfOk result (λ v. Fits (heap ts self.new) v) }
     {
         let first = self.drafts as u64 + self.later.len() as u64;

@@ -12,8 +12,10 @@ mod plans;
 mod reads;
 mod scope;
 mod tables;
+mod watch;
 mod writes;
 
+pub use draft_copies::{CopyEntry, CopyNode, CopyTree};
 pub use draft_slots::Peek;
 pub use mint::{ScopeMint, ScopeTicket};
 pub use node_store::{Cell, Kind, NodeId, Store};

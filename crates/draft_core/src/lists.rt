@@ -9,6 +9,7 @@ ghost use Rattle.run_heap.specs.Laws.{AllContents};
 ghost use Rattle.run_heap.specs.Operations as spec;
 ghost use Rattle.run_heap.specs.Operations.{item};
 ghost use Rattle.run_heap.specs.Sound.{AllStored, Fits, Grows, IsObject};
+ghost use Rattle.draft_core.specs.Left.{GoesOn};
 ghost use Rattle.draft_core.specs.Seen.{heap, Stands};
 ghost use Rattle.draft_core.specs.Writes.{slots};
 
@@ -25,10 +26,8 @@ impl Scope {
         requires stands { Stands (states store.now) self.old }
         requires stored { AllStored (heap (states store.now) self.old) items.now }
         ensures done { Makes result (heap (states store.now) self.old) (heap (states store.now) self.new) (with_object (fresh kind.List (map item items.now)) (heap (states store.now) self.old)) (next_object (heap (states store.now) self.old)) }
-        ensures stands { Stands (states store.now) self.new }
-        ensures grows { Grows (heap (states store.now) self.old) (heap (states store.now) self.new) }
+        ensures goes { GoesOn (states store.now) self.old self.new 1 }
         ensures fits { IfOk result (λ v. Fits (heap (states store.now) self.new) v) }
-        ensures tables { slots self.new ≤ slots self.old + 1 }
     {
         let list = list_content(alloc, items)?;
         self.reserve()?;
@@ -55,10 +54,8 @@ impl Scope {
         requires stored { AllStored (heap (states store.now) self.old) items.now }
         requires others { AllStored (heap (states store.now) self.old) others.now }
         ensures done { Makes result (heap (states store.now) self.old) (heap (states store.now) self.new) (with_object (fresh kind.List (map item others.now)) (spec.splice_at from to items.now (heap (states store.now) self.old) of.now)) (next_object (heap (states store.now) self.old)) }
-        ensures stands { Stands (states store.now) self.new }
-        ensures grows { Grows (heap (states store.now) self.old) (heap (states store.now) self.new) }
+        ensures goes { GoesOn (states store.now) self.old self.new 2 }
         ensures fits { IfOk result (λ v. Fits (heap (states store.now) self.new) v) }
-        ensures tables { slots self.new ≤ slots self.old + 2 }
     {
         let list = list_content(alloc, others)?;
         self.reserve()?;
@@ -69,9 +66,8 @@ impl Scope {
     /// Makes room for one more object.
     fn reserve(&mut self) -> Result<(), AllocError>
         ensures heap { (ts : List Tree) → heap ts self.new ≡ heap ts self.old }
-        ensures stands { (ts : List Tree) → Stands ts self.old → Stands ts self.new }
+        ensures goes { (ts : List Tree) → Stands ts self.old → GoesOn ts self.old self.new 0 }
         ensures room { OnOk result (vec_len self.new.later < vec_capacity self.new.later) }
-        ensures tables { slots self.new ≡ slots self.old }
     {
         self.later.reserve(1)
     }
@@ -82,8 +78,7 @@ impl Scope {
         ensures heap { (ts : List Tree) → heap ts self.new ≡ with_object content (heap ts self.old) }
         ensures value { (ts : List Tree) → result ≡ next_object (heap ts self.old) }
         ensures fits { (ts : List Tree) → Fits (heap ts self.new) result }
-        ensures stands { (ts : List Tree) → Stands ts self.old → AllContents (with_object content (heap ts self.old)) (content ∷ []) → Stands ts self.new }
-        ensures tables { slots self.new ≤ slots self.old + 1 }
+        ensures goes { (ts : List Tree) → Stands ts self.old → AllContents (with_object content (heap ts self.old)) (content ∷ []) → GoesOn ts self.old self.new 1 }
     {
         let slot = self.drafts as u64 + self.later.len() as u64;
         self.later.push_reserved(content);

@@ -8,7 +8,7 @@ ghost use Rattle.run_heap.specs.Operations as spec;
 ghost use Rattle.run_heap.specs.Sound.{Fits, Owned};
 ghost use Rattle.run_heap.specs.Values.{same};
 ghost use Rattle.draft_slots.specs.Looks.{looked, IsLook};
-ghost use Rattle.draft_core.specs.Seen.{heap, Stands};
+ghost use Rattle.draft_core.specs.Seen.{heap, watched, Stands};
 ghost use Rattle.draft_core.specs.Tables.{own_content, own_look, own_table};
 
 use crate::mint::ScopeTicket;
@@ -31,6 +31,10 @@ pub struct Scope {
     pub(crate) touched: BTreeMap<u64, Content>,
     /// The later objects, in the order of their names.
     pub(crate) later: Vec<Content>,
+    /// How many objects there were at the last `watch`, or at the beginning.
+    pub(crate) seen: u64,
+    /// What those of them that were written since had of their own then, by name: nothing, or a table.
+    pub(crate) noted: BTreeMap<u64, Option<Content>>,
 }
 
 impl Scope {
@@ -44,15 +48,19 @@ impl Scope {
         requires { root ≤ length (states store.now) }
         ensures heap { IfOk result (λ s. heap (states store.now) s ≡ opened ticket (states store.now) root) }
         ensures stands { IfOk result (λ s. Stands (states store.now) s) }
+        ensures watched { IfOk result (λ s. watched (states store.now) s ≡ opened ticket (states store.now) root) }
     {
         let _from_one = root.get();
+        let drafts = store.containers(root) as u32;
         Ok(Scope {
             number: ticket.number(),
             root,
             len: store.len(),
-            drafts: store.containers(root) as u32,
+            drafts,
             touched: BTreeMap::new(alloc),
             later: Vec::new(alloc),
+            seen: drafts as u64,
+            noted: BTreeMap::new(alloc),
         })
     }
 

@@ -7,6 +7,7 @@ ghost use Rattle.run_heap.specs.Operations as spec;
 ghost use Rattle.run_heap.specs.Operations.{rewrite, table_of};
 ghost use Rattle.run_heap.specs.Sound.{Owned, IsObject, AllStored, Grows};
 ghost use Rattle.draft_core.specs.Plans.{Plans, MayRemove};
+ghost use Rattle.draft_core.specs.Left.{GoesOn};
 ghost use Rattle.draft_core.specs.Seen.{heap, Stands};
 ghost use Rattle.draft_slots.specs.Looks.{changed, MayChange};
 ghost use Rattle.draft_core.specs.Tables.{SameRoom};
@@ -37,9 +38,7 @@ impl Scope {
         requires owned { Owned (heap (states store.now) self.old) of.now }
         requires value { Owned (heap (states store.now) self.old) value }
         ensures done { Does result (heap (states store.now) self.old) (heap (states store.now) self.new) (spec.put_at key.now value (heap (states store.now) self.old) of.now) }
-        ensures stands { Stands (states store.now) self.new }
-        ensures grows { Grows (heap (states store.now) self.old) (heap (states store.now) self.new) }
-        ensures tables { slots self.new ≤ slots self.old + 1 }
+        ensures goes { GoesOn (states store.now) self.old self.new 1 }
     {
         let change = self.plan_put(alloc, store, of, key, value)?;
         self.change(alloc, store, of, change)?;
@@ -59,9 +58,7 @@ impl Scope {
         requires stands { Stands (states store.now) self.old }
         requires owned { Owned (heap (states store.now) self.old) of.now }
         ensures done { Does result (heap (states store.now) self.old) (heap (states store.now) self.new) (spec.remove_at key.now (heap (states store.now) self.old) of.now) }
-        ensures stands { Stands (states store.now) self.new }
-        ensures grows { Grows (heap (states store.now) self.old) (heap (states store.now) self.new) }
-        ensures tables { slots self.new ≤ slots self.old + 1 }
+        ensures goes { GoesOn (states store.now) self.old self.new 1 }
     {
         self.may_remove(store, of, key)?;
         self.change(alloc, store, of, Change::Unset(key))?;
@@ -85,9 +82,7 @@ impl Scope {
         requires in_range { to ≤ spec.count (heap (states store.now) self.old) of.now }
         requires stored { AllStored (heap (states store.now) self.old) items.now }
         ensures done { Leaves result (heap (states store.now) self.old) (heap (states store.now) self.new) (spec.splice_at from to items.now (heap (states store.now) self.old) of.now) }
-        ensures stands { Stands (states store.now) self.new }
-        ensures grows { Grows (heap (states store.now) self.old) (heap (states store.now) self.new) }
-        ensures tables { slots self.new ≤ slots self.old + 1 }
+        ensures goes { GoesOn (states store.now) self.old self.new 1 }
     {
         self.change(alloc, store, of, Change::Splice(from, to, items))
     }
@@ -106,9 +101,7 @@ impl Scope {
         requires keyed { spec.kind_of (heap (states store.now) self.old) of.now ≢ Some kind.List }
         requires stored { MayStand (heap (states store.now) self.old) of.now key.now value }
         ensures done { Leaves result (heap (states store.now) self.old) (heap (states store.now) self.new) (spec.set_key key.now value (heap (states store.now) self.old) of.now) }
-        ensures stands { Stands (states store.now) self.new }
-        ensures grows { Grows (heap (states store.now) self.old) (heap (states store.now) self.new) }
-        ensures tables { slots self.new ≤ slots self.old + 1 }
+        ensures goes { GoesOn (states store.now) self.old self.new 1 }
     {
         match value {
             Some(value) => {
@@ -124,9 +117,7 @@ impl Scope {
         requires stands { Stands (states store.now) self.old }
         requires object { IsObject (heap (states store.now) self.old) of.now }
         ensures done { Leaves result (heap (states store.now) self.old) (heap (states store.now) self.new) (spec.empty (heap (states store.now) self.old) of.now) }
-        ensures stands { Stands (states store.now) self.new }
-        ensures grows { Grows (heap (states store.now) self.old) (heap (states store.now) self.new) }
-        ensures tables { slots self.new ≤ slots self.old + 1 }
+        ensures goes { GoesOn (states store.now) self.old self.new 1 }
     {
         self.change(alloc, store, of, Change::Clear)
     }
@@ -185,13 +176,12 @@ impl Scope {
         requires may { MayChange change (table_of (heap (states store.now) self.old) of.now) }
         requires table { KeepsTable (heap (states store.now) self.old) of.now (changed change) }
         ensures done { Leaves result (heap (states store.now) self.old) (heap (states store.now) self.new) (rewrite (changed change.entry) (heap (states store.now) self.old) of.now) }
-        ensures stands { Stands (states store.now) self.new }
-        ensures grows { Grows (heap (states store.now) self.old) (heap (states store.now) self.new) }
+        ensures goes { GoesOn (states store.now) self.old self.new 1 }
         ensures room { SameRoom self.old self.new }
-        ensures tables { slots self.new ≤ slots self.old + 1 }
     {
         match of {
             Rv::Obj(object) => {
+                self.note(alloc, object.slot)?;
                 self.open(alloc, store, object.slot)?;
                 self.rewrite_at(alloc, object.slot, change)
             }

@@ -9,10 +9,13 @@ use Rattle.numbered.specs.Laws.{Extends}
 use Rattle.numbered.proofs.Laws.{extends_take}
 use Rattle.numbered.specs.Store.{IsStore, AreNext}
 use Rattle.numbered.specs.Tree.{Tree, prim}
-use Rattle.run_heap.specs.Sound.{IsSound}
+use Rattle.run_heap.specs.Heap.{Heap}
+use Rattle.run_heap.specs.Sound.{IsSound, Grows}
 use Rattle.draft_core.specs.declared.scope.Scope.{Scope}
 use Rattle.draft_core.specs.Changed.{heap_is}
-use Rattle.draft_core.specs.Seen.{heap, Stands, kept_heap}
+use Rattle.draft_core.specs.Seen.{heap, watched, Stands, kept_heap, seen_heap}
+use Rattle.draft_core.specs.Tables.{own_then}
+use Rattle.draft_core.proofs.Watched.{watched_is}
 
 -- the first states are the same
 take_same : (n : ℕ) (ts us : List Tree) → n ≤ length ts → Extends ts us → take n us ≡ take n ts
@@ -34,6 +37,12 @@ module _ (ts us : List Tree) (s : Scope) (st : Stands ts s) (e : Extends ts us) 
       ∙ ap (λ (xs : List Tree). kept_heap s.number xs s.root s.drafts (get nat_cmp s.touched) s.later.items) states_same
       ∙ heap_is ts s
 
+  pub watched_extended : watched us s ≡ watched ts s
+  watched_extended =
+      sym (watched_is us s)
+      ∙ ap (λ (xs : List Tree). seen_heap s.number xs s.root s.seen (own_then s)) states_same
+      ∙ watched_is ts s
+
   pub stands_extended : IsStore us → Stands us s
   stands_extended store = record {
     store = store;
@@ -41,6 +50,8 @@ module _ (ts us : List Tree) (s : Scope) (st : Stands ts s) (e : Extends ts us) 
     root = rw states_same st.root;
     drafts = rw states_same st.drafts;
     sound = subst IsSound (sym heap_extended) st.sound;
+    before = subst IsSound (sym watched_extended) st.before;
+    since = subst (λ (h : Heap). Grows h (heap us s)) (sym watched_extended) (subst (Grows (watched ts s)) (sym heap_extended) st.since);
   }
 
 -- ---- and neither does one that is cut back
@@ -70,6 +81,12 @@ module _ (ts : List Tree) (s : Scope) (mark : ℕ) (st : Stands ts s) (old : len
       ∙ ap (λ (xs : List Tree). kept_heap s.number xs s.root s.drafts (get nat_cmp s.touched) s.later.items) states_kept
       ∙ heap_is ts s
 
+  pub watched_cut : watched (take mark ts) s ≡ watched ts s
+  watched_cut =
+      sym (watched_is (take mark ts) s)
+      ∙ ap (λ (xs : List Tree). seen_heap s.number xs s.root s.seen (own_then s)) states_kept
+      ∙ watched_is ts s
+
   pub stands_cut : Stands (take mark ts) s
   stands_cut = record {
     store = next_take mark [] ts st.store;
@@ -77,4 +94,6 @@ module _ (ts : List Tree) (s : Scope) (mark : ℕ) (st : Stands ts s) (old : len
     root = rw states_kept st.root;
     drafts = rw states_kept st.drafts;
     sound = subst IsSound (sym heap_cut) st.sound;
+    before = subst IsSound (sym watched_cut) st.before;
+    since = subst (λ (h : Heap). Grows h (heap (take mark ts) s)) (sym watched_cut) (subst (Grows (watched ts s)) (sym heap_cut) st.since);
   }

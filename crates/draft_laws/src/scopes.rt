@@ -9,7 +9,7 @@ ghost use Rattle.run_heap.specs.Heap.{Heap, is_foreign};
 ghost use Rattle.run_heap.specs.Operations.{get, put_at, remove_at, keys, len, original};
 ghost use Rattle.run_heap.specs.Sound.{IsObject};
 ghost use Rattle.run_heap.specs.declared.value.Rv.{Rv as Value};
-ghost use Rattle.draft_core.specs.Seen.{heap, Stands};
+ghost use Rattle.draft_core.specs.Seen.{heap, watched, Stands};
 ghost use Rattle.draft_core.specs.declared.scope.Scope.{Scope as ScopeModel};
 
 use draft_core::{ScopeMint, ScopeTicket};
@@ -19,6 +19,7 @@ use draft_core::{ScopeMint, ScopeTicket};
 pub fn law_extended_store()
     ensures stands { (ts us : List Tree) (s : ScopeModel) → Stands ts s → Extends ts us → IsStore us → Stands us s }
     ensures heap { (ts us : List Tree) (s : ScopeModel) → Stands ts s → Extends ts us → heap us s ≡ heap ts s }
+    ensures watched { (ts us : List Tree) (s : ScopeModel) → Stands ts s → Extends ts us → watched us s ≡ watched ts s }
     ensures added { (ts more : List Tree) → Extends ts (ts ++ more) }
 {}
 
@@ -26,6 +27,7 @@ pub fn law_extended_store()
 pub fn law_cut_store()
     ensures stands { (ts : List Tree) (s : ScopeModel) (mark : ℕ) → Stands ts s → length (heap ts s).states ≤ mark → Stands (take mark ts) s }
     ensures heap { (ts : List Tree) (s : ScopeModel) (mark : ℕ) → Stands ts s → length (heap ts s).states ≤ mark → heap (take mark ts) s ≡ heap ts s }
+    ensures watched { (ts : List Tree) (s : ScopeModel) (mark : ℕ) → Stands ts s → length (heap ts s).states ≤ mark → watched (take mark ts) s ≡ watched ts s }
 {}
 
 /// A call is refused as `Revoked` exactly where one of its operands is a reference of another scope.

@@ -10,6 +10,7 @@ ghost use Rattle.run_heap.specs.Operations.{or_undefined, table_of, read, edited
 ghost use Rattle.run_heap.specs.Sound.{Fits, Owned, IsContainer, IsObject, Grows};
 ghost use Rattle.draft_map_set_spec.specs.MapSet as meaning;
 ghost use Rattle.draft_map_set_spec.specs.MapSet.{of_kind, is_there, deleting, clearing};
+ghost use Rattle.draft_core.specs.Left.{GoesOn};
 ghost use Rattle.draft_core.specs.Seen.{heap, Stands};
 ghost use Rattle.draft_core.specs.Writes.{slots};
 ghost use Rattle.draft_map_set.specs.Checks.{taken};
@@ -85,9 +86,7 @@ pub(crate) fn delete(
     requires stands { Stands (states store.now) scope.old }
     requires owned { Owned (heap (states store.now) scope.old) of.now }
     ensures done { Does result (heap (states store.now) scope.old) (heap (states store.now) scope.new) (edited (deleting (taken takes) key.now) (heap (states store.now) scope.old) of.now (key.now ∷ [])) }
-    ensures stands { Stands (states store.now) scope.new }
-    ensures grows { Grows (heap (states store.now) scope.old) (heap (states store.now) scope.new) }
-    ensures tables { slots scope.new ≤ slots scope.old + 1 }
+    ensures goes { GoesOn (states store.now) scope.old scope.new 1 }
 {
     check_write_by(scope, store, of, key, takes)?;
     match key {
@@ -107,9 +106,7 @@ fn delete_key(
     requires object { IsObject (heap (states store.now) scope.old) of.now }
     requires keyed { spec.kind_of (heap (states store.now) scope.old) of.now ≢ Some kind.List }
     ensures done { Makes result (heap (states store.now) scope.old) (heap (states store.now) scope.new) (spec.set_key key.now None (heap (states store.now) scope.old) of.now) (meaning.has key.now (table_of (heap (states store.now) scope.old) of.now)) }
-    ensures stands { Stands (states store.now) scope.new }
-    ensures grows { Grows (heap (states store.now) scope.old) (heap (states store.now) scope.new) }
-    ensures tables { slots scope.new ≤ slots scope.old + 1 }
+    ensures goes { GoesOn (states store.now) scope.old scope.new 1 }
 {
     let found = has(scope, store, of, key);
     scope.set_key(alloc, store, of, key, None)?;
@@ -127,9 +124,7 @@ pub(crate) fn clear(
     requires stands { Stands (states store.now) scope.old }
     requires owned { Owned (heap (states store.now) scope.old) of.now }
     ensures done { Does result (heap (states store.now) scope.old) (heap (states store.now) scope.new) (edited (clearing (taken takes)) (heap (states store.now) scope.old) of.now []) }
-    ensures stands { Stands (states store.now) scope.new }
-    ensures grows { Grows (heap (states store.now) scope.old) (heap (states store.now) scope.new) }
-    ensures tables { slots scope.new ≤ slots scope.old + 1 }
+    ensures goes { GoesOn (states store.now) scope.old scope.new 1 }
 {
     check_write(scope, store, of, takes)?;
     Ok(scope.empty(alloc, store, of)?)

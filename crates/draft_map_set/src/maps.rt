@@ -6,6 +6,7 @@ ghost use Rattle.run_heap.specs.Answers.{Answers, Does, Makes};
 ghost use Rattle.run_heap.specs.Heap.{next_object};
 ghost use Rattle.run_heap.specs.Sound.{Fits, Owned, Grows};
 ghost use Rattle.draft_map_set_spec.specs.MapSet as meaning;
+ghost use Rattle.draft_core.specs.Left.{GoesOn};
 ghost use Rattle.draft_core.specs.Seen.{heap, Stands};
 ghost use Rattle.draft_core.specs.Writes.{slots};
 
@@ -69,9 +70,7 @@ pub fn map_set(
     requires owned { Owned (heap (states store.now) scope.old) of.now }
     requires value { Owned (heap (states store.now) scope.old) value }
     ensures done { Does result (heap (states store.now) scope.old) (heap (states store.now) scope.new) (meaning.map_set key.now value (heap (states store.now) scope.old) of.now) }
-    ensures stands { Stands (states store.now) scope.new }
-    ensures grows { Grows (heap (states store.now) scope.old) (heap (states store.now) scope.new) }
-    ensures tables { slots scope.new ≤ slots scope.old + 1 }
+    ensures goes { GoesOn (states store.now) scope.old scope.new 1 }
 {
     check_setting(scope, store, of, key, &value)?;
     match key {
@@ -93,9 +92,7 @@ pub fn map_delete(
     requires stands { Stands (states store.now) scope.old }
     requires owned { Owned (heap (states store.now) scope.old) of.now }
     ensures done { Does result (heap (states store.now) scope.old) (heap (states store.now) scope.new) (meaning.map_delete key.now (heap (states store.now) scope.old) of.now) }
-    ensures stands { Stands (states store.now) scope.new }
-    ensures grows { Grows (heap (states store.now) scope.old) (heap (states store.now) scope.new) }
-    ensures tables { slots scope.new ≤ slots scope.old + 1 }
+    ensures goes { GoesOn (states store.now) scope.old scope.new 1 }
 {
     delete(alloc, scope, store, of, key, Takes::Maps)
 }
@@ -107,9 +104,7 @@ pub fn map_clear(alloc: Global, scope: &mut Scope, store: &Store, of: &Rv) -> Re
     requires stands { Stands (states store.now) scope.old }
     requires owned { Owned (heap (states store.now) scope.old) of.now }
     ensures done { Does result (heap (states store.now) scope.old) (heap (states store.now) scope.new) (meaning.map_clear (heap (states store.now) scope.old) of.now) }
-    ensures stands { Stands (states store.now) scope.new }
-    ensures grows { Grows (heap (states store.now) scope.old) (heap (states store.now) scope.new) }
-    ensures tables { slots scope.new ≤ slots scope.old + 1 }
+    ensures goes { GoesOn (states store.now) scope.old scope.new 1 }
 {
     clear(alloc, scope, store, of, Takes::Maps)
 }
@@ -117,10 +112,8 @@ pub fn map_clear(alloc: Global, scope: &mut Scope, store: &Store, of: &Rv) -> Re
 /// A fresh empty Map. After want of memory all is as before.
 pub fn new_map(alloc: Global, scope: &mut Scope) -> Result<Rv, AllocError>
     ensures done { (ts : List Tree) → Stands ts scope.old → Makes result (heap ts scope.old) (heap ts scope.new) (meaning.new_map (heap ts scope.old)) (next_object (heap ts scope.old)) }
-    ensures stands { (ts : List Tree) → Stands ts scope.old → Stands ts scope.new }
-    ensures grows { (ts : List Tree) → Stands ts scope.old → Grows (heap ts scope.old) (heap ts scope.new) }
+    ensures goes { (ts : List Tree) → Stands ts scope.old → GoesOn ts scope.old scope.new 1 }
     ensures fits { (ts : List Tree) → Stands ts scope.old → IfOk result (λ v. Fits (heap ts scope.new) v) }
-    ensures tables { slots scope.new ≤ slots scope.old + 1 }
 {
     scope.new_of(alloc, Kind::Map)
 }

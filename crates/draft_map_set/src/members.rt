@@ -9,6 +9,7 @@ ghost use Rattle.run_heap.specs.Operations as spec;
 ghost use Rattle.run_heap.specs.Operations.{keys_of, listed, table_of};
 ghost use Rattle.run_heap.specs.Sound.{Fits, Owned, IsContainer, Grows};
 ghost use Rattle.draft_map_set_spec.specs.MapSet as meaning;
+ghost use Rattle.draft_core.specs.Left.{GoesOn};
 ghost use Rattle.draft_core.specs.Seen.{heap, Stands};
 ghost use Rattle.draft_core.specs.Writes.{slots};
 
@@ -39,10 +40,8 @@ pub fn member_keys(
     requires stands { Stands (states store.now) scope.old }
     requires owned { Owned (heap (states store.now) scope.old) of.now }
     ensures done { Does result (heap (states store.now) scope.old) (heap (states store.now) scope.new) (meaning.member_keys (heap (states store.now) scope.old) of.now) }
-    ensures stands { Stands (states store.now) scope.new }
-    ensures grows { Grows (heap (states store.now) scope.old) (heap (states store.now) scope.new) }
+    ensures goes { GoesOn (states store.now) scope.old scope.new 1 }
     ensures fits { IfOk result (λ v. Fits (heap (states store.now) scope.new) v) }
-    ensures tables { slots scope.new ≤ slots scope.old + 1 }
 {
     check_read(scope, store, of, Takes::Both)?;
     Ok(list_keys(alloc, scope, store, of)?)
@@ -54,10 +53,8 @@ fn list_keys(alloc: Global, scope: &mut Scope, store: &Store, of: &Rv) -> Result
     requires container { IsContainer (heap (states store.now) scope.old) of.now }
     requires keyed { spec.kind_of (heap (states store.now) scope.old) of.now ≢ Some kind.List }
     ensures done { Makes result (heap (states store.now) scope.old) (heap (states store.now) scope.new) (with_object (fresh kind.List (listed (keys_of (table_of (heap (states store.now) scope.old) of.now)))) (heap (states store.now) scope.old)) (next_object (heap (states store.now) scope.old)) }
-    ensures stands { Stands (states store.now) scope.new }
-    ensures grows { Grows (heap (states store.now) scope.old) (heap (states store.now) scope.new) }
+    ensures goes { GoesOn (states store.now) scope.old scope.new 1 }
     ensures fits { IfOk result (λ v. Fits (heap (states store.now) scope.new) v) }
-    ensures tables { slots scope.new ≤ slots scope.old + 1 }
 {
     let keys = key_list(alloc, scope, store, of)?;
     scope.list_of(alloc, store, &keys)

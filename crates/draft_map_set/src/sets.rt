@@ -6,6 +6,7 @@ ghost use Rattle.run_heap.specs.Answers.{Does, Makes};
 ghost use Rattle.run_heap.specs.Heap.{next_object};
 ghost use Rattle.run_heap.specs.Sound.{Fits, Owned, Grows};
 ghost use Rattle.draft_map_set_spec.specs.MapSet as meaning;
+ghost use Rattle.draft_core.specs.Left.{GoesOn};
 ghost use Rattle.draft_core.specs.Seen.{heap, Stands};
 ghost use Rattle.draft_core.specs.Writes.{slots};
 
@@ -28,9 +29,7 @@ pub fn set_add(
     requires stands { Stands (states store.now) scope.old }
     requires owned { Owned (heap (states store.now) scope.old) of.now }
     ensures done { Does result (heap (states store.now) scope.old) (heap (states store.now) scope.new) (meaning.set_add member.now (heap (states store.now) scope.old) of.now) }
-    ensures stands { Stands (states store.now) scope.new }
-    ensures grows { Grows (heap (states store.now) scope.old) (heap (states store.now) scope.new) }
-    ensures tables { slots scope.new ≤ slots scope.old + 1 }
+    ensures goes { GoesOn (states store.now) scope.old scope.new 1 }
 {
     check_adding(scope, store, of, member)?;
     match member {
@@ -72,9 +71,7 @@ pub fn set_delete(
     requires stands { Stands (states store.now) scope.old }
     requires owned { Owned (heap (states store.now) scope.old) of.now }
     ensures done { Does result (heap (states store.now) scope.old) (heap (states store.now) scope.new) (meaning.set_delete member.now (heap (states store.now) scope.old) of.now) }
-    ensures stands { Stands (states store.now) scope.new }
-    ensures grows { Grows (heap (states store.now) scope.old) (heap (states store.now) scope.new) }
-    ensures tables { slots scope.new ≤ slots scope.old + 1 }
+    ensures goes { GoesOn (states store.now) scope.old scope.new 1 }
 {
     delete(alloc, scope, store, of, member, Takes::Sets)
 }
@@ -86,9 +83,7 @@ pub fn set_clear(alloc: Global, scope: &mut Scope, store: &Store, of: &Rv) -> Re
     requires stands { Stands (states store.now) scope.old }
     requires owned { Owned (heap (states store.now) scope.old) of.now }
     ensures done { Does result (heap (states store.now) scope.old) (heap (states store.now) scope.new) (meaning.set_clear (heap (states store.now) scope.old) of.now) }
-    ensures stands { Stands (states store.now) scope.new }
-    ensures grows { Grows (heap (states store.now) scope.old) (heap (states store.now) scope.new) }
-    ensures tables { slots scope.new ≤ slots scope.old + 1 }
+    ensures goes { GoesOn (states store.now) scope.old scope.new 1 }
 {
     clear(alloc, scope, store, of, Takes::Sets)
 }
@@ -96,10 +91,8 @@ pub fn set_clear(alloc: Global, scope: &mut Scope, store: &Store, of: &Rv) -> Re
 /// A fresh empty Set. After want of memory all is as before.
 pub fn new_set(alloc: Global, scope: &mut Scope) -> Result<Rv, AllocError>
     ensures done { (ts : List Tree) → Stands ts scope.old → Makes result (heap ts scope.old) (heap ts scope.new) (meaning.new_set (heap ts scope.old)) (next_object (heap ts scope.old)) }
-    ensures stands { (ts : List Tree) → Stands ts scope.old → Stands ts scope.new }
-    ensures grows { (ts : List Tree) → Stands ts scope.old → Grows (heap ts scope.old) (heap ts scope.new) }
+    ensures goes { (ts : List Tree) → Stands ts scope.old → GoesOn ts scope.old scope.new 1 }
     ensures fits { (ts : List Tree) → Stands ts scope.old → IfOk result (λ v. Fits (heap ts scope.new) v) }
-    ensures tables { slots scope.new ≤ slots scope.old + 1 }
 {
     scope.new_of(alloc, Kind::Set)
 }

@@ -1,5 +1,5 @@
 -- What every heap of a run keeps: laws.
-use Rattle.std.proofs.Common.{◌≡◌, ◌≢◌, ℕ, zero, suc, ◌+◌, ◌-◌, ◌<◌, ◌≤◌, List, [], ◌∷◌, length, refl, ap, sym, ◌∙◌, subst, arith, true, false, not, Less, Equal, Greater}
+use Rattle.std.proofs.Common.{◌≡◌, ◌≢◌, ℕ, zero, suc, ◌+◌, ◌-◌, ◌<◌, ◌≤◌, List, [], ◌∷◌, ◌++◌, length, refl, ap, sym, ◌∙◌, subst, arith, true, false, not, Less, Equal, Greater}
 use Rattle.std.specs.Prelude.{◌||◌, ◌==◌, nat_lt, if◌then◌else◌, Option, Some, None, slice_get, cond, pos, negsuc, Result, Ok, Err}
 use Rattle.std.specs.FinMap.Entries.{find}
 use Rattle.std.specs.Ordering.{is_eq, eq_by_cmp}
@@ -212,6 +212,24 @@ keeps_refl (Some c) = (refl, refl, λ w. w)
 pub grows_refl : (h : Heap) → Grows h h
 grows_refl h = record { scope = refl; states = refl; root = refl; more = omega arith; keeps = λ n. keeps_refl (h.object n) }
 
+keeps_on : (a b c : Option Content) → Keeps a b → Keeps b c → Keeps a c
+keeps_on None b c p q = tt
+keeps_on (Some a) None c p q = absurd p
+keeps_on (Some a) (Some b) None p q = absurd q
+keeps_on (Some a) (Some b) (Some c) p q = (q.0 ∙ p.0, q.1 ∙ p.1, λ w. q.2 (p.2 w))
+
+pub grows_on : (f g h : Heap) → Grows f g → Grows g h → Grows f h
+grows_on f g h p q =
+    let few = p.more in
+    let more = q.more in
+    record {
+      scope = q.scope ∙ p.scope;
+      states = q.states ∙ p.states;
+      root = q.root ∙ p.root;
+      more = omega (arith, few, more);
+      keeps = λ n. keeps_on (f.object n) (g.object n) (h.object n) (p.keeps n) (q.keeps n);
+    }
+
 pub grows_update : (h : Heap) (n : ℕ) (t : Rows) (c : Content) → h.object n ≡ Some c → Grows h (update n (rewritten t c) h)
 grows_update h n t c o = record {
   scope = refl;
@@ -243,6 +261,14 @@ pub get_none : (cs : List Content) (i : ℕ) → length cs ≤ i → slice_get c
 get_none [] i l = refl
 get_none (c ∷ cs) zero l = absurd (omega arith)
 get_none (c ∷ cs) (suc i) l = get_none cs i (omega arith)
+
+pub get_append : (cs ds : List Content) (i : ℕ) → slice_get (cs ++ ds) i ≡ (if nat_lt i (length cs) then slice_get cs i else slice_get ds (i - length cs))
+get_append [] ds i = let z : i - 0 ≡ i = omega arith in let no : nat_lt i 0 ≡ false = grind arith in rw (no, z) refl
+get_append (c ∷ cs) ds zero = let yes : nat_lt 0 (suc (length cs)) ≡ true = grind arith in rw yes refl
+get_append (c ∷ cs) ds (suc i) =
+    let same : nat_lt (suc i) (suc (length cs)) ≡ nat_lt i (length cs) = grind arith in
+    let less : suc i - suc (length cs) ≡ i - length cs = omega arith in
+    rw (same, less) (get_append cs ds i)
 
 pub objects_on : (h : Heap) (cs : List Content) → Onwards h (with_objects cs h)
 objects_on h cs = record { scope = refl; states = refl; more = omega arith }
@@ -285,11 +311,14 @@ fresh_fits c h = (refl, omega arith)
 pub made_fits : (c : Content) (g h : Heap) (v : Rv) → h ≡ with_object c g → v ≡ next_object g → Fits h v
 made_fits c g h v p q = rw (p, q) (fresh_fits c g)
 
+pub literal_count : (h : Heap) (v : Plain) → length (literals h v) ≡ places v
+literal_count h v = length-map (post_order (numbered h.next v)) (literal h.scope) ∙ length_post (numbered h.next v) ∙ containers_numbered h.next v
+
 pub plain_fits : (h : Heap) (v : Plain) → Fits (with_plain v h) (value_of h v)
 plain_fits h (plain_value.prim k) = tt
 plain_fits h (plain_value.node of es) =
     let v = plain_value.node of es in
-    let count : length (literals h v) ≡ places v = length-map (post_order (numbered h.next v)) (literal h.scope) ∙ length_post (numbered h.next v) ∙ containers_numbered h.next v in
+    let count = literal_count h v in
     (refl, omega (arith, count))
 
 -- ---- what a value of a sound heap shows may be an object's content

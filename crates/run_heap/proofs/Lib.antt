@@ -1,3 +1,4 @@
 pub mod Foreign
+pub mod CopyLaws
 pub mod Laws
 pub mod Tables

@@ -1,4 +1,5 @@
 pub mod Answers
+pub mod Copies
 pub mod Examples
 pub mod Foreign
 pub mod Heap

@@ -1,7 +1,8 @@
-ghost use Rattle.std.specs.Prelude.{◌≡◌};
+ghost use Rattle.std.specs.Prelude.{◌≡◌, IfOk};
 
 use crate::value::Rv;
 use node_store::NodeId;
+use std::alloc::{AllocError, Global};
 use std::marker::Model;
 use value_model::{Key, Kind};
 
@@ -37,6 +38,25 @@ impl Table {
     {
         self.entries.as_slice()
     }
+
+    /// The same entries.
+    pub fn copy(&self, alloc: Global) -> Result<Table, AllocError>
+        ensures { IfOk result (λ t. t ≡ self.now) }
+    {
+        let entries = copy_entries(alloc, self.entries.as_slice())?;
+        Ok(Table { entries })
+    }
+}
+
+fn copy_entries(alloc: Global, entries: &[(Key, Rv)]) -> Result<Vec<(Key, Rv)>, AllocError>
+    ensures { IfOk result (λ t. t.items ≡ entries.now) }
+{
+    let mut copied = Vec::with_capacity(alloc, entries.len())?;
+    for entry in entries {
+        let key = entry.0.copy(alloc)?;
+        copied.push((key, entry.1.copy(alloc)?))?;
+    }
+    Ok(copied)
 }
 
 /// What an object of a run holds.
@@ -48,4 +68,18 @@ pub struct Content {
     pub source: Option<NodeId>,
     /// Whether a write left it different.
     pub written: bool,
+}
+
+impl Content {
+    /// The same content.
+    pub fn copy(&self, alloc: Global) -> Result<Content, AllocError>
+        ensures { IfOk result (λ c. c ≡ self.now) }
+    {
+        Ok(Content {
+            kind: self.kind,
+            table: self.table.copy(alloc)?,
+            source: self.source,
+            written: self.written,
+        })
+    }
 }

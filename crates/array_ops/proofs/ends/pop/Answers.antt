@@ -23,4 +23,4 @@ returns-clause-done c =
 pub returns-clause-fits : goal.returns-clause-fits
 returns-clause-fits c =
     let h = heap (states c.args.store.now) c.args.scope.now in
-    fits_on h (heap (states c.args.store.now) c.splice_at.new.self) c.in_ok-last.last (rw c.in_ok-last.ensures.same at c.in_ok-splice_at.ensures.grows) c.in_ok-last.ensures.fits
+    fits_on h (heap (states c.args.store.now) c.splice_at.new.self) c.in_ok-last.last (rw c.in_ok-last.ensures.same at c.in_ok-splice_at.ensures.goes.grows) c.in_ok-last.ensures.fits

@@ -1,5 +1,5 @@
 use Rattle.numbered.proofs.Laws.{extends_append}
-use Rattle.draft_laws.proofs.StoreLaws.{heap_extended, stands_extended}
+use Rattle.draft_laws.proofs.StoreLaws.{heap_extended, stands_extended, watched_extended}
 use Rattle.draft_laws.proofs.scopes.law_extended_store.Goals as goal
 
 pub returns-clause-stands : goal.returns-clause-stands
@@ -10,3 +10,6 @@ returns-clause-heap c ts us s st e = heap_extended ts us s st e
 
 pub returns-clause-added : goal.returns-clause-added
 returns-clause-added c ts more = extends_append ts more
+
+pub returns-clause-watched : goal.returns-clause-watched
+returns-clause-watched c ts us s st e = watched_extended ts us s st e

@@ -36,7 +36,7 @@ returns-in-Ok-clause-scope c =
     let root = c.root-root.ensures.value ts c.requires.scope.stands in
     let done = subst (λ (of : Rv). Does (Ok c.in-Ok.field-0) h (heap ts t) (put_at c.args.key.now j h of)) root c.in-Ok.ensures.done in
     let edited = set_does ts s t c.args.key.now c.args.number (Ok c.in-Ok.field-0) c.requires.scope c.requires.text done in
-    record { stands = c.in-Ok.ensures.stands; flat = edited.flat }
+    record { stands = c.in-Ok.ensures.goes.stands; flat = edited.flat }
 
 pub stopped-requires : goal.stopped-requires
 stopped-requires c =

@@ -28,4 +28,4 @@ returns-in-Ok-clause-scope c =
     let root = c.root-root.ensures.value ts c.requires.scope.stands in
     let done = subst (λ (of : Rv). Does (Ok c.in-Ok.field-0) h (heap ts t) (remove_at c.args.key.now h of)) root c.in-Ok.ensures.done in
     let edited = unset_does ts s t c.args.key.now (Ok c.in-Ok.field-0) c.requires.scope c.requires.text done in
-    record { stands = c.in-Ok.ensures.stands; flat = edited.flat }
+    record { stands = c.in-Ok.ensures.goes.stands; flat = edited.flat }

@@ -1,8 +1,6 @@
-use Rattle.std.proofs.Common.{◌≡◌, ◌∙◌, ◌+◌, List, ◌∷◌, [], length, refl, sym, subst, ap, ℕ}
-use Rattle.run_heap.specs.declared.content.Content.{Content}
-use Rattle.run_heap.proofs.Laws.{made_fits, objects_sound}
-use Rattle.run_heap.specs.Sound.{IsSound}
-use Rattle.draft_core.proofs.Changed.{stands_as}
+use Rattle.std.proofs.Common.{◌≡◌, ◌∙◌, ◌+◌, List, ◌∷◌, [], length, refl, ap, ℕ}
+use Rattle.run_heap.proofs.Laws.{made_fits}
+use Rattle.draft_core.proofs.Watched.{goes_made}
 use Rattle.draft_core.proofs.FreshLaws.{heap_made, next_made}
 use Rattle.draft_core.specs.Seen.{heap}
 use Rattle.draft_core.proofs.scope.Scope.add.Goals as goal
@@ -19,7 +17,5 @@ returns-clause-value c = λ ts.
 pub returns-clause-fits : goal.returns-clause-fits
 returns-clause-fits c = λ ts. made_fits c.args.content (heap ts c.args.self.now) _ _ (returns-clause-heap c ts) (returns-clause-value c ts)
 
-pub returns-clause-stands : goal.returns-clause-stands
-returns-clause-stands c = λ ts st all.
-    let cs : List Content = c.args.content ∷ [] in
-    stands_as ts c.args.self.now _ st (record { number = refl; root = refl; len = refl; drafts = refl }) (subst IsSound (sym (returns-clause-heap c ts)) (objects_sound (heap ts c.args.self.now) cs st.sound all))
+pub returns-clause-goes : goal.returns-clause-goes
+returns-clause-goes c = λ ts st all. goes_made ts c.args.self.now _ (c.args.content ∷ []) st (record { number = refl; root = refl; len = refl; drafts = refl }) (record { seen = refl; noted = refl }) refl c.push_reserved.ensures.items all

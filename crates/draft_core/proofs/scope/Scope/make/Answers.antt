@@ -1,13 +1,16 @@
-use Rattle.std.proofs.Common.{◌≡◌, ◌∙◌, ◌+◌, List, ◌∷◌, [], length, refl, sym, subst, ap, ℕ}
+use Rattle.std.proofs.Common.{◌≡◌, ◌∙◌, ◌+◌, ◌-◌, List, ◌∷◌, [], length, refl, ap, arith, ℕ}
+use Rattle.std.specs.Prelude.{nat_lt, if◌then◌else◌, slice_get}
+use Rattle.std.specs.BTreeMap.{get}
+use Rattle.std.specs.Ordering.{nat_cmp}
 use Rattle.std.proofs.lemmas.Result.{err_from_is_err_and}
 use Rattle.run_heap.specs.declared.content.Content.{Content}
 use Rattle.run_heap.specs.Heap.{with_objects}
-use Rattle.run_heap.proofs.Laws.{made_fits, objects_sound, grows_objects, grows_refl}
-use Rattle.run_heap.specs.Sound.{IsSound, Grows}
+use Rattle.run_heap.proofs.Laws.{made_fits}
 use Rattle.draft_core.specs.declared.scope.Scope.{Scope}
-use Rattle.draft_core.proofs.Changed.{heap_same, stands_as}
+use Rattle.draft_core.proofs.Changed.{heap_same}
 use Rattle.draft_core.proofs.FreshLaws.{heap_made, next_made, literal_contents}
 use Rattle.draft_core.specs.Seen.{heap}
+use Rattle.draft_core.proofs.Watched.{goes_made, goes_same, watched_own}
 use Rattle.draft_core.proofs.scope.Scope.make.Goals as goal
 
 pub returns-in_err-push-clause-done : goal.returns-in_err-push-clause-done
@@ -16,17 +19,13 @@ returns-in_err-push-clause-done c = λ ts st.
     let p = err_from_is_err_and c.from_residual.result c.from_residual.ensures.1 in
     rw p.1 (heap_same ts c.args.self.now t (record { number = refl; root = refl; len = refl; drafts = refl }) refl c.in_err-push.ensures.items)
 
-pub returns-in_err-push-clause-stands : goal.returns-in_err-push-clause-stands
-returns-in_err-push-clause-stands c = λ ts st.
-    let t : Scope = record c.args.self.now { later = c.push.new.self } in
-    let same = heap_same ts c.args.self.now t (record { number = refl; root = refl; len = refl; drafts = refl }) refl c.in_err-push.ensures.items in
-    stands_as ts c.args.self.now t st (record { number = refl; root = refl; len = refl; drafts = refl }) (subst IsSound (sym same) st.sound)
-
-pub returns-in_err-push-clause-grows : goal.returns-in_err-push-clause-grows
-returns-in_err-push-clause-grows c = λ ts st.
-    let t : Scope = record c.args.self.now { later = c.push.new.self } in
-    let same = heap_same ts c.args.self.now t (record { number = refl; root = refl; len = refl; drafts = refl }) refl c.in_err-push.ensures.items in
-    subst (Grows (heap ts c.args.self.now)) (sym same) (grows_refl (heap ts c.args.self.now))
+pub returns-in_err-push-clause-goes : goal.returns-in_err-push-clause-goes
+returns-in_err-push-clause-goes c = λ ts st.
+    let s = c.args.self.now in
+    let t : Scope = record s { later = c.push.new.self } in
+    let items = c.in_err-push.ensures.items in
+    let long = ap length items in
+    goes_same ts s t 1 st (record { number = refl; root = refl; len = refl; drafts = refl }) (heap_same ts s t (record { number = refl; root = refl; len = refl; drafts = refl }) refl items) (watched_own ts s t (record { number = refl; root = refl; len = refl; drafts = refl }) (record { seen = refl; noted = refl }) (λ m. ap (λ cs. if nat_lt m s.drafts then get nat_cmp s.touched m else slice_get cs (m - s.drafts)) items)) (omega (arith, long))
 
 pub returns-clause-done : goal.returns-clause-done
 returns-clause-done c = λ ts st.
@@ -36,16 +35,11 @@ returns-clause-done c = λ ts st.
       next_made ts s _ (ap (λ (n : ℕ). s.drafts + n) long),
     )
 
-pub returns-clause-stands : goal.returns-clause-stands
-returns-clause-stands c = λ ts st.
+pub returns-clause-goes : goal.returns-clause-goes
+returns-clause-goes c = λ ts st.
     let h = heap ts c.args.self.now in
     let cs : List Content = c.args.content ∷ [] in
-    stands_as ts c.args.self.now _ st (record { number = refl; root = refl; len = refl; drafts = refl }) (subst IsSound (sym (returns-clause-done c ts st).0) (objects_sound h cs st.sound (literal_contents (with_objects cs h) c.args.content c.requires)))
-
-pub returns-clause-grows : goal.returns-clause-grows
-returns-clause-grows c = λ ts st.
-    let h = heap ts c.args.self.now in
-    subst (Grows h) (sym (returns-clause-done c ts st).0) (grows_objects h (c.args.content ∷ []) st.sound)
+    goes_made ts c.args.self.now _ cs st (record { number = refl; root = refl; len = refl; drafts = refl }) (record { seen = refl; noted = refl }) refl c.in_ok-push.ensures.items (literal_contents (with_objects cs h) c.args.content c.requires)
 
 pub returns-clause-fits : goal.returns-clause-fits
 returns-clause-fits c = λ ts st.

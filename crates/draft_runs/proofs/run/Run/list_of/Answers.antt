@@ -4,4 +4,4 @@ use Rattle.draft_runs.proofs.Held.{all_grow}
 use Rattle.draft_runs.proofs.run.Run.list_of.Goals as goal
 
 pub keep-requires-clause-owned : goal.keep-requires-clause-owned
-keep-requires-clause-owned c = all_grow (heap (states c.args.self.now.store) c.args.self.now.scope) (heap (states c.args.self.now.store) c.list_of.new.self) c.args.self.now.values.items c.list_of.ensures.grows c.requires.owned
+keep-requires-clause-owned c = all_grow (heap (states c.args.self.now.store) c.args.self.now.scope) (heap (states c.args.self.now.store) c.list_of.new.self) c.args.self.now.values.items c.list_of.ensures.goes.grows c.requires.owned

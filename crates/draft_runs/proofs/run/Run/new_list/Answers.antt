@@ -4,4 +4,4 @@ use Rattle.draft_runs.proofs.Held.{all_grow}
 use Rattle.draft_runs.proofs.run.Run.new_list.Goals as goal
 
 pub keep-requires-clause-owned : goal.keep-requires-clause-owned
-keep-requires-clause-owned c = all_grow (heap (states c.args.self.now.store) c.args.self.now.scope) (heap (states c.args.self.now.store) c.new_list.new.self) c.args.self.now.values.items (c.new_list.ensures.grows (states c.args.self.now.store) c.requires.stands) c.requires.owned
+keep-requires-clause-owned c = all_grow (heap (states c.args.self.now.store) c.args.self.now.scope) (heap (states c.args.self.now.store) c.new_list.new.self) c.args.self.now.values.items (c.new_list.ensures.goes (states c.args.self.now.store) c.requires.stands).grows c.requires.owned

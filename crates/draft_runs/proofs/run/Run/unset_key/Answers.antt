@@ -4,4 +4,4 @@ use Rattle.draft_runs.proofs.Held.{all_grow}
 use Rattle.draft_runs.proofs.run.Run.unset_key.Goals as goal
 
 pub returns-clause-owned : goal.returns-clause-owned
-returns-clause-owned c = all_grow (heap (states c.args.self.now.store) c.args.self.now.scope) (heap (states c.args.self.now.store) c.set_key.new.self) c.args.self.now.values.items c.set_key.ensures.grows c.requires.owned
+returns-clause-owned c = all_grow (heap (states c.args.self.now.store) c.args.self.now.scope) (heap (states c.args.self.now.store) c.set_key.new.self) c.args.self.now.values.items c.set_key.ensures.goes.grows c.requires.owned
